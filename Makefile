@@ -1,0 +1,21 @@
+# The habits of this repository, thin over the toolchain.
+.PHONY: run test check dev format
+
+# The main job: prove every crate, and run each program on its sample.
+run:
+	rt check
+
+# The gate, as it runs before a change lands.
+test:
+	.ci/run
+
+# make check CRATE=elements: prove one crate and those below it.
+check:
+	rt check $(CRATE)
+
+# make dev CRATE=elements: the edit loop, in seconds; no verdict.
+dev:
+	rt dev $(CRATE)
+
+format:
+	rt fmt

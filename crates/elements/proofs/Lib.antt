@@ -1,0 +1,6 @@
+pub mod ElementLaws
+pub mod RowLaws
+pub mod Determined
+pub mod NotWhole
+mod Paths
+pub mod Worked

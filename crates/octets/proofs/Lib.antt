@@ -1,0 +1,4 @@
+pub mod OctetsLaws
+pub mod PartLaws
+pub mod SpliceLaws
+pub mod ReaderLaws

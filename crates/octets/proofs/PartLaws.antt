@@ -1,0 +1,30 @@
+-- Parts: how long they are, at the ends of a list, and a part of a part.
+use Prim.Native.Nat.{ℕ, suc, _+_, _-_, _≤_, _<_, min}
+use mathlib.Core.Path.{_≡_, refl, sym, ap, _∙_}
+use mathlib.Core.List.{List, []}
+use native.Mathlib.Omega.{arith}
+use lib.ListN.{length, take, drop, getD, length-take, length-drop, drop-of-length-le}
+use lib.Seq.{take-all, take-nil, take-take, drop-drop, getD-take, getD-drop}
+use Rattle.octets.specs.Part.{between}
+
+pub length-between : (from to : ℕ) (s : List ℕ) → to ≤ length s → length (between from to s) ≡ to - from
+length-between from to s h = simp (length-take, length-drop) (omega arith)
+
+-- an end that does not lie behind the start
+pub none-between : (from to : ℕ) (s : List ℕ) → to ≤ from → between from to s ≡ []
+none-between from to s h = let e : to - from ≡ 0 = omega arith in rw e
+
+-- a start that lies past the end
+pub past-end : (from to : ℕ) (s : List ℕ) → length s ≤ from → between from to s ≡ []
+past-end from to s h = rw (drop-of-length-le s h, take-nil)
+
+-- an end that lies past the end
+pub to-end : (from to : ℕ) (s : List ℕ) → length s ≤ to → between from to s ≡ drop from s
+to-end from to s h = take-all (to - from) (drop from s) (simp length-drop (omega arith))
+
+-- `&s[i..]`
+pub rest-part : (i : ℕ) (s : List ℕ) → between i (length s) s ≡ drop i s
+rest-part i s = to-end i (length s) s (omega arith)
+
+pub getD-between : (from to : ℕ) (s : List ℕ) (k : ℕ) → k < to - from → getD (between from to s) k 0 ≡ getD s (from + k) 0
+getD-between from to s k h = getD-take (to - from) (drop from s) k 0 h ∙ getD-drop from s k 0

@@ -1,0 +1,4 @@
+pub mod Octets
+pub mod Part
+pub mod Splice
+pub mod Reader
