@@ -1,0 +1,3 @@
+pub mod IdLaws
+mod Halves
+mod Tabulate

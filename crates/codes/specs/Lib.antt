@@ -1,0 +1,4 @@
+pub mod Ids
+pub mod Operations
+pub mod Errors
+pub mod Problems
