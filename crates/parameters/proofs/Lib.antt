@@ -1,0 +1,4 @@
+pub mod ParameterLaws
+pub mod Determined
+mod Paths
+pub mod Worked

@@ -1,0 +1,53 @@
+use borrow.Author.Needs.{needs}
+use mathlib.Core.Path.{_∙_}
+use borrow.Author.Tests.{eq-eqb, ne-eqb}
+use Rattle.parameters.specs.Suits.{suitsInvokeWritten}
+use Rattle.parameters.proofs.suits.suits_invoke_written.Statement.{statement}
+use Rattle.parameters.proofs.suits.suits_invoke_written.Tie as tie
+use Rattle.parameters.proofs.suits.suits_invoke_written.Reads as reads
+use Rattle.parameters.proofs.suits.suits_invoke_written.Lts as lts
+use Rattle.parameters.proofs.kinds.is_service_code.Reads as is-service-code-reads
+use Rattle.parameters.proofs.kinds.is_ss_for_bs.Reads as is-ss-for-bs-reads
+use Rattle.parameters.proofs.kinds.is_ussd.Reads as is-ussd-reads
+use Rattle.parameters.proofs.one.is_one.Reads as is-one-reads
+
+is-one-requires : tie.Need-is-one-requires
+is-one-requires c κs = search needs
+
+returns : tie.Need-returns
+unfolding suitsInvokeWritten
+returns c = c .is-one .ensures ∙ rw (eq-eqb _ _ (c .before .if1 .taken))
+
+is-ss-for-bs-requires : tie.Need-is-ss-for-bs-requires
+is-ss-for-bs-requires c κs = search needs
+
+returns-2 : tie.Need-returns-2
+unfolding suitsInvokeWritten
+returns-2 c = c .is-ss-for-bs .ensures ∙ rw (ne-eqb _ _ (c .before .before .if1 .left), c .before .if2 .taken)
+
+is-service-code-requires : tie.Need-is-service-code-requires
+is-service-code-requires c κs = search needs
+
+returns-3 : tie.Need-returns-3
+unfolding suitsInvokeWritten
+returns-3 c = c .is-service-code .ensures ∙ rw (ne-eqb _ _ (c .before .before .before .if1 .left), c .before .before .if2 .left, eq-eqb _ _ (c .before .if3 .taken))
+
+is-ussd-requires : tie.Need-is-ussd-requires
+is-ussd-requires c κs = search needs
+
+returns-4 : tie.Need-returns-4
+unfolding suitsInvokeWritten
+returns-4 c = rw (ne-eqb _ _ (c .before .before .before .if1 .left), c .before .before .if2 .left, ne-eqb _ _ (c .before .if3 .left), c .is-ussd .ensures)
+
+pub suits-invoke-written-spec : {M : Type 1} → statement M
+suits-invoke-written-spec =
+    tie.close
+    (tie.spec
+    is-one-requires
+    returns
+    is-ss-for-bs-requires
+    returns-2
+    is-service-code-requires
+    returns-3
+    is-ussd-requires
+    returns-4)

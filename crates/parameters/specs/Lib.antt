@@ -1,0 +1,3 @@
+pub mod Parameter
+pub mod Suits
+pub mod Seen

@@ -1,0 +1,58 @@
+-- What is left behind a place, the parameter as the last octets, and a place where no element stands.
+use Prim.Native.Nat.{ℕ, _+_, _-_, _≤_, _<_}
+use mathlib.Core.Path.{_≡_, refl, sym, ap, _∙_}
+use mathlib.Core.List.{List, [], _∷_}
+use mathlib.Core.Logic.{⊎-elim}
+use native.Mathlib.Omega.{arith}
+use types.Run.{OneOf}
+use denote.Enum.Declared.{tagOf}
+use lib.ListN.{length, getD, drop, length-drop}
+use lib.IntN.{ℤ}
+use lib.Seq.{drop-drop}
+use mir.Syntax.{w8}
+use mir.Val.{toZ, ofZ}
+use Rattle.octets.specs.Reader.{fault, isEmpty}
+use Rattle.elements.specs.Found.{seen}
+use Rattle.elements.specs.declared.Found.{Found}
+use Rattle.elements.specs.declared.Found.the-variants.{Missing, Whole}
+use Rattle.elements.proofs.Found.{the-type}
+use Rattle.codes.specs.Ids.{idOf}
+use Rattle.codes.proofs.IdLaws.{octet-back}
+use Rattle.places.specs.Seen.{problemOf, last}
+use mathlib.Core.Bool.{true, false}
+use Rattle.elements.specs.Element.{element}
+
+-- where no whole element stands, the fault has the number that the code hands on
+pub problem-is : (r : Found) (s : List ℕ) → OneOf (0 ∷ 1 ∷ []) (tagOf the-type r) → seen s r ≡ element s → fault (problemOf r) ≡ element s
+problem-is Missing s k e = e
+problem-is Found.Unreadable s k e = e
+problem-is (Whole t a b) s k e = absurd (⊎-elim (λ z. omega arith) (λ z. omega arith) k)
+
+-- an id that the code holds as i8
+pub held : {z : ℤ} (n : ℕ) → n < 256 → z ≡ idOf n → toZ w8 (ofZ w8 z) ≡ idOf n
+held n h e = ap (λ (y : ℤ). toZ w8 (ofZ w8 y)) e ∙ ap idOf (octet-back n h)
+
+pub nothing-left : (s : List ℕ) → length s ≡ 0 → isEmpty s ≡ true
+nothing-left [] e = refl
+nothing-left (a ∷ s) e = absurd (omega arith)
+
+pub something-left : (s : List ℕ) → (length s ≡ 0 → ⊥) → isEmpty s ≡ false
+something-left [] e = absurd (e refl)
+something-left (a ∷ s) e = refl
+
+-- what is left behind a place: nothing at the end, something before it
+pub left-none : (s : List ℕ) (e : ℕ) → e ≡ length s → isEmpty (drop e s) ≡ true
+left-none s e h = nothing-left (drop e s) (simp length-drop (omega arith))
+
+pub left-some : (s : List ℕ) (e : ℕ) → e ≤ length s → (e ≡ length s → ⊥) → isEmpty (drop e s) ≡ false
+left-some s e l h = something-left (drop e s) (λ z. h (omega (arith, simp length-drop at z)))
+
+-- the parameter behind a place is the last octets
+pub last-is : (s : List ℕ) (e : ℕ) → e ≤ length s → last (length s - e) s ≡ drop e s
+last-is s e l = let h : length s - (length s - e) ≡ e = omega arith in rw h
+
+-- the last octets of a part that goes on to the end
+pub last-end : (s : List ℕ) (a n : ℕ) → a ≤ length s → n ≤ length (drop a s) → last n (drop a s) ≡ last n s
+last-end s a n k l =
+    let h : a + (length (drop a s) - n) ≡ length s - n = omega (arith, length-drop a s) in
+    drop-drop (length (drop a s) - n) a s ∙ ap (λ (j : ℕ). drop j s) h
