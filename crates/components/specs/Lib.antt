@@ -1,0 +1,5 @@
+pub mod Component
+pub mod Facility
+pub mod Written
+pub mod LaterEdition
+pub mod Seen

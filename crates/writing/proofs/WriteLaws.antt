@@ -1,0 +1,71 @@
+-- What is written in pieces is one writing, and how long it is.
+use Prim.Native.Nat.{ℕ, suc, _+_, _≤_, _<_}
+use mathlib.Core.Path.{_≡_, refl, sym, ap, _∙_, subst}
+use mathlib.Core.List.{List, [], _∷_, _++_, append-assoc}
+use native.Mathlib.Omega.{arith}
+use lib.ListN.{length, length-append}
+use lib.IntN.{ℤ}
+use Rattle.octets.specs.Splice.{splice}
+use Rattle.codes.specs.Ids.{idOf, octetOf}
+use Rattle.codes.proofs.IdLaws.{IsId, id-back}
+use Rattle.octets.proofs.SpliceLaws.{splice-splice}
+use Rattle.elements.specs.Element.{shortest, header, written}
+use Rattle.elements.proofs.ElementLaws.{shortest-length}
+use Rattle.components.specs.Written.{contents, octets, answer, enclosedLength}
+
+pub written-length : (tag : ℕ) (c : List ℕ) → length (written tag c) ≡ length (header tag (length c)) + length c
+written-length tag c = length-append (header tag (length c)) c
+
+pub pieces-length : (tag : ℕ) (head tail : List ℕ) → length (written tag (head ++ tail)) ≡ length (header tag (length head + length tail)) + length head + length tail
+pieces-length tag head tail = let e = length-append head tail in rw (written-length tag (head ++ tail), e) (omega arith)
+
+whole : (tag : ℕ) (head tail : List ℕ) → written tag (head ++ tail) ≡ header tag (length head + length tail) ++ (head ++ tail)
+whole tag head tail = rw (length-append head tail)
+
+-- a header, then the contents in two pieces
+pub pieces : (b x y z : List ℕ) (at tag : ℕ) (head tail : List ℕ) (n m : ℕ) → at + length (written tag (head ++ tail)) ≤ length b
+    → x ≡ splice b at (header tag (length head + length tail)) → n ≡ at + length (header tag (length head + length tail))
+    → y ≡ splice x n head → z ≡ splice y m tail → m ≡ n + length head
+    → z ≡ splice b at (written tag (head ++ tail))
+pieces b x y z at tag head tail n m f p q r s t =
+    let h : List ℕ = header tag (length head + length tail) in
+    let l = pieces-length tag head tail in
+    let e = length-append h head in
+    let k : m ≡ at + length (h ++ head) = omega arith in
+    let g : splice (splice (splice b at h) (at + length h) head) (at + length (h ++ head)) tail ≡ splice b at ((h ++ head) ++ tail) = rw (splice-splice b at h head (omega arith)) (splice-splice b at (h ++ head) tail (omega arith)) in
+    let w : (h ++ head) ++ tail ≡ written tag (head ++ tail) = append-assoc h head tail ∙ sym (whole tag head tail) in
+    s ∙ rw (r, p, q, k) (g ∙ ap (λ (j : List ℕ). splice b at j) w)
+
+-- a place of one octet, and what stands behind it
+pub place-length : (tag a b c : ℕ) (p : List ℕ) → length (written tag (a ∷ b ∷ c ∷ p)) ≡ enclosedLength (3 + length p)
+place-length tag a b c p =
+    let e : suc (suc (suc (length p))) ≡ 3 + length p = omega arith in
+    let w = written-length tag (a ∷ b ∷ c ∷ p) in
+    w ∙ rw e (omega arith)
+
+-- an id as the code hands it on
+pub handed : {id : ℤ} {n : ℕ} → IsId id → n ≡ octetOf (idOf (octetOf id)) → n ≡ octetOf id
+handed h e = e ∙ ap octetOf (id-back h)
+
+-- what was written and where it ends, by another name of the same octets
+pub as-written : {e : List ℕ} {r : ℕ} (b : List ℕ) (at : ℕ) {v w : List ℕ} → v ≡ w → (e ≡ splice b at v) × (r ≡ at + length v) → (e ≡ splice b at w) × (r ≡ at + length w)
+as-written {e} {r} b at q h = subst (λ (x : List ℕ). (e ≡ splice b at x) × (r ≡ at + length x)) q h
+
+pub fits-as : (at n : ℕ) {v w : List ℕ} → v ≡ w → at + length w ≤ n → at + length v ≤ n
+fits-as at n q h = subst (λ (x : List ℕ). at + length x ≤ n) (sym q) h
+
+-- the answer to an operation, without a parameter and with one; x is the id's octet
+pub answer-bare : (id : ℤ) (x o : ℕ) (p : List ℕ) → x ≡ octetOf id → length p ≡ 0 → written 0xA2 (0x02 ∷ 0x01 ∷ x ∷ p) ≡ octets (answer id o p)
+unfolding contents answer
+answer-bare id x o [] e h = rw e
+answer-bare id x o (a ∷ p) e h = absurd (omega arith)
+
+pub answer-full : (id : ℤ) (x o : ℕ) (p : List ℕ) → x ≡ octetOf id → (length p ≡ 0 → ⊥)
+    → written 0xA2 ((0x02 ∷ 0x01 ∷ x ∷ []) ++ written 0x30 (0x02 ∷ 0x01 ∷ o ∷ p)) ≡ octets (answer id o p)
+unfolding contents answer
+answer-full id x o [] e h = absurd (h refl)
+answer-full id x o (a ∷ p) e h = rw e
+
+-- how long each is
+pub inner-length : (o : ℕ) (p : List ℕ) → length p ≤ 255 → (length (written 0x30 (0x02 ∷ 0x01 ∷ o ∷ p)) ≡ enclosedLength (3 + length p)) × (enclosedLength (3 + length p) ≤ 262)
+inner-length o p h = (place-length 0x30 0x02 0x01 o p, omega (arith, shortest-length (3 + length p) .1))
