@@ -1,0 +1,4 @@
+pub mod TableLaws
+pub mod Determined
+pub mod Worked
+mod Steps
