@@ -85,3 +85,8 @@ Writable (invoke id linked operation p) = SFits w8 id × (IsSomeId linked × IsP
 Writable (result id operation p) = SFits w8 id × HoldsResult operation p
 Writable (error id code p) = SFits w8 id × IsParameter p
 Writable (reject id tag problem) = IsSomeId id × (problemTag tag ≡ true)
+
+-- and a Reject
+abbrev pub rejectLength : Option ℤ → ℕ
+rejectLength none = 7
+rejectLength (some id) = 8

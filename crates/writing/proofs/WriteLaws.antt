@@ -5,13 +5,17 @@ use mathlib.Core.List.{List, [], _∷_, _++_, append-assoc}
 use native.Mathlib.Omega.{arith}
 use lib.ListN.{length, length-append}
 use lib.IntN.{ℤ}
+use mathlib.Core.Bool.{Bool, true, false, cond}
+use lib.Dec.{eqb, eqb·suc-zero}
 use Rattle.octets.specs.Splice.{splice}
 use Rattle.codes.specs.Ids.{idOf, octetOf}
 use Rattle.codes.proofs.IdLaws.{IsId, id-back}
 use Rattle.octets.proofs.SpliceLaws.{splice-splice}
 use Rattle.elements.specs.Element.{shortest, header, written}
 use Rattle.elements.proofs.ElementLaws.{shortest-length}
-use Rattle.components.specs.Written.{contents, octets, answer, enclosedLength}
+use Rattle.components.specs.Written.{contents, octets, answer, enclosedLength, codedLength, answerLength, rejectLength}
+use Rattle.components.specs.Component.{invoke, error, reject}
+use mathlib.Core.Option.{Option, none, some}
 
 pub written-length : (tag : ℕ) (c : List ℕ) → length (written tag c) ≡ length (header tag (length c)) + length c
 written-length tag c = length-append (header tag (length c)) c
@@ -43,6 +47,13 @@ place-length tag a b c p =
     let w = written-length tag (a ∷ b ∷ c ∷ p) in
     w ∙ rw e (omega arith)
 
+-- two places of one octet, and what stands behind them
+pub six-length : (tag a b c d e f : ℕ) (p : List ℕ) → length (written tag (a ∷ b ∷ c ∷ d ∷ e ∷ f ∷ p)) ≡ enclosedLength (6 + length p)
+six-length tag a b c d e f p =
+    let n : suc (suc (suc (suc (suc (suc (length p)))))) ≡ 6 + length p = omega arith in
+    let w = written-length tag (a ∷ b ∷ c ∷ d ∷ e ∷ f ∷ p) in
+    w ∙ rw n (omega arith)
+
 -- an id as the code hands it on
 pub handed : {id : ℤ} {n : ℕ} → IsId id → n ≡ octetOf (idOf (octetOf id)) → n ≡ octetOf id
 handed h e = e ∙ ap octetOf (id-back h)
@@ -69,3 +80,37 @@ answer-full id x o (a ∷ p) e h = rw e
 -- how long each is
 pub inner-length : (o : ℕ) (p : List ℕ) → length p ≤ 255 → (length (written 0x30 (0x02 ∷ 0x01 ∷ o ∷ p)) ≡ enclosedLength (3 + length p)) × (enclosedLength (3 + length p) ≤ 262)
 inner-length o p h = (place-length 0x30 0x02 0x01 o p, omega (arith, shortest-length (3 + length p) .1))
+
+-- how long each component is
+pub invoke-octets : (id : ℤ) (o : ℕ) (p : List ℕ) → length (octets (invoke id none o p)) ≡ codedLength (length p)
+unfolding contents
+invoke-octets id o p = six-length 0xA1 0x02 0x01 (octetOf id) 0x02 0x01 o p
+
+pub error-octets : (id : ℤ) (o : ℕ) (p : List ℕ) → length (octets (error id o p)) ≡ codedLength (length p)
+unfolding contents
+error-octets id o p = six-length 0xA3 0x02 0x01 (octetOf id) 0x02 0x01 o p
+
+pub answer-octets : (id : ℤ) (o : ℕ) (p : List ℕ) → length (octets (answer id o p)) ≡ answerLength (length p)
+unfolding contents answer
+answer-octets id o [] = place-length 0xA2 0x02 0x01 (octetOf id) []
+answer-octets id o (a ∷ p) =
+    let e = place-length 0x30 0x02 0x01 o (a ∷ p) in
+    rw (eqb·suc-zero (length p))
+    (place-length 0xA2 0x02 0x01 (octetOf id) (written 0x30 (0x02 ∷ 0x01 ∷ o ∷ a ∷ p)) ∙ ap (λ (n : ℕ). enclosedLength (3 + n)) e)
+
+pub reject-octets : (id : Option ℤ) (tag problem : ℕ) → length (octets (reject id tag problem)) ≡ rejectLength id
+unfolding contents shortest
+reject-octets none tag problem = refl
+reject-octets (some id) tag problem = refl
+
+-- a bound on each length that leaves room for what stands around it
+pub answer-bound : (n : ℕ) → n ≤ 255 → answerLength n ≤ 300
+answer-bound n h = go (eqb n 0)
+  where
+    go : (b : Bool) → cond b (enclosedLength 3) (enclosedLength (3 + enclosedLength (3 + n))) ≤ 300
+    go true = omega (arith, shortest-length 3 .1)
+    go false = omega (arith, shortest-length (3 + n) .1, shortest-length (3 + enclosedLength (3 + n)) .1)
+
+pub reject-bound : (id : Option ℤ) → rejectLength id ≤ 8
+reject-bound none = omega arith
+reject-bound (some id) = omega arith

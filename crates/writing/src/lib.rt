@@ -9,7 +9,7 @@ ghost use Rattle.octets.specs.Splice.{splice};
 ghost use Rattle.elements.specs.Element.{written};
 ghost use Rattle.places.specs.Seen.{idSeen};
 ghost use Rattle.components.specs.Component.{invoke, error, reject};
-ghost use Rattle.components.specs.Written.{octets, answer, enclosedLength, codedLength, answerLength};
+ghost use Rattle.components.specs.Written.{octets, answer, enclosedLength, codedLength, answerLength, rejectLength};
 
 // An element with so many octets of contents.
 fn enclosed_length(n: usize) -> usize
@@ -104,4 +104,18 @@ pub fn write_answer(buf: &mut [u8], at: usize, id: i8, operation: u8, p: &[u8]) 
     octets::put(buf, next, &head);
     let told = [0x02, 0x01, operation];
     write_enclosed(buf, next + 3, 0x30, &told, p)
+}
+
+// A Reject has seven octets, or eight with an id.
+pub fn reject_length(id: Id) -> u8
+    ensures { λ r. ⌜ r ≡ rejectLength (idSeen id) ⌝ }
+{
+    match id {
+        Id::Absent => {
+            return 7;
+        }
+        Id::Is(_) => {
+            return 8;
+        }
+    }
 }

@@ -1,0 +1,5 @@
+pub mod ScanLaws
+pub mod Determined
+mod NotWhole
+mod Paths
+pub mod Worked

@@ -1,0 +1,4 @@
+pub mod Layout
+pub mod Types
+pub mod Scan
+pub mod Seen

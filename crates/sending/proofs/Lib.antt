@@ -1,0 +1,2 @@
+mod SendLaws
+pub mod SentBack
