@@ -1,0 +1,3 @@
+mod Paths
+pub mod Determined
+pub mod Worked

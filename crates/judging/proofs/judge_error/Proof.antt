@@ -1,0 +1,37 @@
+use borrow.Author.Needs.{needs}
+use mathlib.Core.Path.{sym, _∙_}
+use borrow.Author.Tests.{not-true, not-false}
+use Rattle.table.specs.Seen.{invokeSeen}
+use Rattle.judging.specs.StepSix.{judgeError}
+use Rattle.judging.proofs.Paths.{among-is, cleared}
+use Rattle.judging.proofs.judge_error.Statement.{statement}
+use Rattle.judging.proofs.judge_error.Tie as tie
+use Rattle.judging.proofs.judge_error.Reads as reads
+use Rattle.judging.proofs.judge_error.Lts as lts
+use Rattle.codes.proofs.errors.is_listed.Reads as is-listed-reads
+use Rattle.judging.proofs.is_among.Reads as is-among-reads
+
+is-among-requires : tie.Need-is-among-requires
+is-among-requires c κs = search needs
+
+returns : tie.Need-returns
+unfolding judgeError
+returns c = rw (sym (among-is (invokeSeen (c .before .before .args .slot .own)) (c .before .before .fits .id) (c .before .is-among .ensures)) ∙ not-true _ (c .if1 .taken))
+
+is-listed-requires : tie.Need-is-listed-requires
+is-listed-requires c κs = search needs
+
+returns-2 : tie.Need-returns-2
+unfolding judgeError
+returns-2 c = rw (sym (among-is (invokeSeen (c .before .before .before .before .args .slot .own)) (c .before .before .before .before .fits .id) (c .before .before .before .is-among .ensures)) ∙ not-false _ (c .before .before .if1 .left), sym (c .before .is-listed .ensures) ∙ not-true _ (c .if2 .taken))
+
+returns-3 : tie.Need-returns-3
+unfolding judgeError
+returns-3 c =
+    let w = c .before .before .before .before .args .slot .own in
+    let m = sym (among-is (invokeSeen w) (c .before .before .before .before .fits .id) (c .before .before .before .is-among .ensures)) ∙ not-false _ (c .before .before .if1 .left) in
+    rw (m, sym (c .before .is-listed .ensures) ∙ not-false _ (c .if2 .left), cleared (c .before .before .before .before .args .id) w m)
+
+pub judge-error-spec : {M : Type 1} → statement M
+judge-error-spec =
+    tie.close (tie.spec is-among-requires returns is-listed-requires returns-2 returns-3)

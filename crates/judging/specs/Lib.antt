@@ -1,0 +1,2 @@
+pub mod StepSix
+pub mod Seen

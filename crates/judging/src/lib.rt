@@ -1,0 +1,229 @@
+// Step 6: a component held against the entry of its transaction.
+use components::shown::Operation;
+use parameters::suits::Place;
+use places::Id;
+use table::Invoke;
+use table::Slot;
+ghost use mathlib.Core.Path.{_≡_};
+ghost use Rattle.places.specs.Seen.{idSeen};
+ghost use Rattle.components.specs.Seen.{operationSeen};
+ghost use Rattle.table.specs.Seen.{invokeSeen, slotSeen};
+ghost use Rattle.judging.specs.StepSix.{among, full, operationOf, judgeInvoke, judgeResult, judgeError, isOurs, linkedProblem, withOne};
+ghost use Rattle.judging.specs.Seen.{verdictSeen, linkedSeen, linkedNumber};
+
+pub enum Verdict {
+    Problem { tag: u8, number: u8 },
+    Accepted(Slot),
+}
+
+pub enum Linked {
+    Sound,
+    Problem(u8),
+}
+
+// Whether the invoke with this id waits.
+pub fn is_among(id: i8, waiting: Invoke) -> bool
+    ensures { λ r. ⌜ r ≡ among id (invokeSeen waiting) ⌝ }
+{
+    match waiting {
+        Invoke::Absent => {
+            return false;
+        }
+        Invoke::Waits {
+            id: other,
+            operation: _,
+        } => {
+            return (other == id) | false;
+        }
+    }
+}
+
+fn is_full(waiting: Invoke) -> bool
+    ensures { λ r. ⌜ r ≡ full (invokeSeen waiting) ⌝ }
+{
+    match waiting {
+        Invoke::Absent => {
+            return false;
+        }
+        Invoke::Waits {
+            id: _,
+            operation: _,
+        } => {
+            return true;
+        }
+    }
+}
+
+// The operation that waits under this id; 0 where none does.
+fn waiting_operation(id: i8, waiting: Invoke) -> u8
+    ensures { λ r. ⌜ r ≡ operationOf id (invokeSeen waiting) ⌝ }
+{
+    match waiting {
+        Invoke::Absent => {
+            return 0;
+        }
+        Invoke::Waits {
+            id: other,
+            operation,
+        } => {
+            if other == id {
+                return operation;
+            }
+            return 0;
+        }
+    }
+}
+
+// A linked id held against our outstanding invoke.
+fn judge_linked(own: Invoke, linked: Id, operation: u8) -> Linked
+    ensures { λ r. ⌜ linkedSeen r ≡ linkedProblem (invokeSeen own) (idSeen linked) operation ⌝ }
+{
+    let Id::Is(id) = linked else {
+        return Linked::Sound;
+    };
+    if !is_among(id, own) {
+        return Linked::Problem(5);
+    }
+    if waiting_operation(id, own) != 17 {
+        return Linked::Problem(6);
+    }
+    if operation != 18 {
+        return Linked::Problem(7);
+    }
+    Linked::Sound
+}
+
+fn linked_number(linked: Linked) -> u8
+    ensures { λ r. ⌜ r ≡ linkedNumber linked ⌝ }
+{
+    match linked {
+        Linked::Sound => 0,
+        Linked::Problem(number) => number,
+    }
+}
+
+// The entry with the invoke that was taken; one that has no answer is not kept.
+fn with_peer(own: Invoke, id: i8, operation: u8) -> Slot
+    ensures { λ r. ⌜ slotSeen r ≡ withOne (invokeSeen own) id operation ⌝ }
+{
+    if codes::operations::is_waited_for(operation) {
+        return Slot {
+            open: true,
+            own: own,
+            peer: Invoke::Waits {
+                id: id,
+                operation: operation,
+            },
+        };
+    }
+    Slot {
+        open: true,
+        own: own,
+        peer: Invoke::Absent,
+    }
+}
+
+// An Invoke.
+pub fn judge_invoke(slot: Slot, id: i8, linked: Id, operation: u8, p: &[u8]) -> Verdict
+    ensures { λ r. ⌜ verdictSeen r ≡ judgeInvoke (slotSeen slot) id (idSeen linked) operation (now (p .entry)) ⌝ }
+{
+    let own = slot.own;
+    let peer = slot.peer;
+    if is_among(id, peer) {
+        return Verdict::Problem {
+            tag: 0x81,
+            number: 0,
+        };
+    }
+    if is_full(peer) {
+        return Verdict::Problem {
+            tag: 0x81,
+            number: 3,
+        };
+    }
+    if !codes::operations::is_served(operation) {
+        return Verdict::Problem {
+            tag: 0x81,
+            number: 1,
+        };
+    }
+    let told = judge_linked(own, linked, operation);
+    let Linked::Sound = told else {
+        return Verdict::Problem {
+            tag: 0x81,
+            number: linked_number(told),
+        };
+    };
+    if !parameters::suits::is_suited(Place::InvokeReceived, operation, p) {
+        return Verdict::Problem {
+            tag: 0x81,
+            number: 2,
+        };
+    }
+    Verdict::Accepted(with_peer(own, id, operation))
+}
+
+// Whether an operation that is told is ours.
+fn is_ours(operation: Operation, ours: u8) -> bool
+    ensures { λ r. ⌜ r ≡ isOurs (operationSeen operation) ours ⌝ }
+{
+    match operation {
+        Operation::Absent => {
+            return true;
+        }
+        Operation::Is(told) => {
+            return told == ours;
+        }
+    }
+}
+
+// A Return result.
+pub fn judge_result(slot: Slot, id: i8, operation: Operation, p: &[u8]) -> Verdict
+    ensures { λ r. ⌜ verdictSeen r ≡ judgeResult (slotSeen slot) id (operationSeen operation) (now (p .entry)) ⌝ }
+{
+    let own = slot.own;
+    let peer = slot.peer;
+    if !is_among(id, own) {
+        return Verdict::Problem {
+            tag: 0x82,
+            number: 0,
+        };
+    }
+    let ours = waiting_operation(id, own);
+    if !(is_ours(operation, ours) & parameters::suits::is_suited(Place::ResultReceived, ours, p)) {
+        return Verdict::Problem {
+            tag: 0x82,
+            number: 2,
+        };
+    }
+    Verdict::Accepted(Slot {
+        open: slot.open,
+        own: Invoke::Absent,
+        peer: peer,
+    })
+}
+
+// A Return error.
+pub fn judge_error(slot: Slot, id: i8, code: u8) -> Verdict
+    ensures { λ r. ⌜ verdictSeen r ≡ judgeError (slotSeen slot) id code ⌝ }
+{
+    let own = slot.own;
+    let peer = slot.peer;
+    if !is_among(id, own) {
+        return Verdict::Problem {
+            tag: 0x83,
+            number: 0,
+        };
+    }
+    if !codes::errors::is_listed(code) {
+        return Verdict::Problem {
+            tag: 0x83,
+            number: 2,
+        };
+    }
+    Verdict::Accepted(Slot {
+        open: slot.open,
+        own: Invoke::Absent,
+        peer: peer,
+    })
+}
