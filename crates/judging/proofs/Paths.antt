@@ -1,8 +1,8 @@
 -- What the definitions say on each path through the code.
 use Prim.Native.Nat.{ℕ}
-use mathlib.Core.Path.{_≡_, refl, sym, ap, _∙_}
+use mathlib.Core.Path.{_≡_, refl, ap, _∙_}
 use mathlib.Core.List.{List, [], _∷_}
-use mathlib.Core.Bool.{Bool, true, false, cond, not, _||_}
+use mathlib.Core.Bool.{Bool, true, false, cond, _||_}
 use native.Mathlib.Omega.{arith}
 use lib.IntN.{ℤ}
 use Rattle.codes.specs.Ids.{idOf, octetOf}
@@ -18,6 +18,10 @@ among-is ws h e = e ∙ ap (λ (i : ℤ). among i ws) (id-back h)
 
 pub operation-is : {n : ℕ} {id : ℤ} (ws : List Waiting) → IsId id → n ≡ operationOf (idOf (octetOf id)) ws → n ≡ operationOf id ws
 operation-is ws h e = e ∙ ap (λ (i : ℤ). operationOf i ws) (id-back h)
+
+pub or-none : (b : Bool) → b ≡ b || false
+or-none true = refl
+or-none false = refl
 
 -- where none waits there is room
 pub room : (w : Invoke) → full (invokeSeen w) ≡ false → invokeSeen w ≡ []

@@ -33,7 +33,7 @@ pub fn is_among(id: i8, waiting: Invoke) -> bool
             id: other,
             operation: _,
         } => {
-            return (other == id) | false;
+            return other == id;
         }
     }
 }

@@ -81,25 +81,25 @@ pub fn find(s: &[u8], identifier: u8) -> Part
     ensures reads { λ r. ⌜ partSeen (now (s .entry)) r ≡ firstTaken identifier (now (s .entry)) ⌝ }
     ensures within { λ r. ⌜ PartWithin (now (s .entry)) r ⌝ }
 {
-    let mut i = 0;
+    let mut at = 0;
     loop {
         let Item::Whole {
             identifier: met,
             start,
             end,
-        } = read_item(&s[i..])
+        } = read_item(&s[at..])
         else {
             break;
         };
         if met == identifier {
-            let from = i + start;
-            let to = i + end;
+            let from = at + start;
+            let to = at + end;
             return Part::Between {
                 start: from,
                 end: to,
             };
         }
-        i += end;
+        at += end;
     }
     Part::Nothing
 }

@@ -1,23 +1,18 @@
 -- What is left behind a place, the parameter as the last octets, and a place where no element stands.
-use Prim.Native.Nat.{ℕ, _+_, _-_, _≤_, _<_}
-use mathlib.Core.Path.{_≡_, refl, sym, ap, _∙_}
+use Prim.Native.Nat.{ℕ, _+_, _-_, _≤_}
+use mathlib.Core.Path.{_≡_, refl, ap, _∙_}
 use mathlib.Core.List.{List, [], _∷_}
 use mathlib.Core.Logic.{⊎-elim}
 use native.Mathlib.Omega.{arith}
 use types.Run.{OneOf}
 use denote.Enum.Declared.{tagOf}
-use lib.ListN.{length, getD, drop, length-drop}
-use lib.IntN.{ℤ}
+use lib.ListN.{length, drop, length-drop}
 use lib.Seq.{drop-drop}
-use mir.Syntax.{w8}
-use mir.Val.{toZ, ofZ}
 use Rattle.octets.specs.Reader.{fault, isEmpty}
 use Rattle.elements.specs.Found.{seen}
 use Rattle.elements.specs.declared.Found.{Found}
 use Rattle.elements.specs.declared.Found.the-variants.{Missing, Whole}
 use Rattle.elements.proofs.Found.{the-type}
-use Rattle.codes.specs.Ids.{idOf}
-use Rattle.codes.proofs.IdLaws.{octet-back}
 use Rattle.places.specs.Seen.{problemOf, last}
 use mathlib.Core.Bool.{true, false}
 use Rattle.elements.specs.Element.{element}
@@ -27,10 +22,6 @@ pub problem-is : (r : Found) (s : List ℕ) → OneOf (0 ∷ 1 ∷ []) (tagOf th
 problem-is Missing s k e = e
 problem-is Found.Unreadable s k e = e
 problem-is (Whole t a b) s k e = absurd (⊎-elim (λ z. omega arith) (λ z. omega arith) k)
-
--- an id that the code holds as i8
-pub held : {z : ℤ} (n : ℕ) → n < 256 → z ≡ idOf n → toZ w8 (ofZ w8 z) ≡ idOf n
-held n h e = ap (λ (y : ℤ). toZ w8 (ofZ w8 y)) e ∙ ap idOf (octet-back n h)
 
 pub nothing-left : (s : List ℕ) → length s ≡ 0 → isEmpty s ≡ true
 nothing-left [] e = refl

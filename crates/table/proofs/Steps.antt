@@ -1,5 +1,5 @@
--- What the code's proofs cite: an id that is held as an i8, the tests of an entry and of the image, the named entry, the scan for a closed value.
-use mathlib.Core.Path.{_≡_, refl, ap, _∙_}
+-- What the code's proofs cite: the tests of an entry and of the image, the named entry, the scan for a closed value.
+use mathlib.Core.Path.{_≡_, refl, ap}
 use mathlib.Core.Bool.{Bool, true, false, cond, _&&_}
 use mathlib.Core.List.{List}
 use mathlib.Core.Option.{none, some}
@@ -9,17 +9,9 @@ use native.Mathlib.Numerals.{add-one}
 use native.Mathlib.Omega.{arith}
 use borrow.Author.Tests.{eq-eqb, ne-eqb, le-leb, lt-leb}
 use lib.Dec.{eqb}
-use lib.IntN.{ℤ}
 use lib.ListN.{length, getD}
-use mir.Syntax.{w8}
-use mir.Val.{toZ, ofZ}
-use Rattle.codes.specs.Ids.{idOf}
 use Rattle.codes.specs.Operations.{begins, waits}
-use Rattle.codes.proofs.IdLaws.{octet-back}
 use Rattle.table.specs.Table.{size, named, hasOwn, hasPeer, Image, imageAt, soundIn, soundState, soundImage, entryOf, entryAt, soundEntries, valid, lowestFrom}
-
-pub held : {z : ℤ} (n : ℕ) → n < 256 → z ≡ idOf n → toZ w8 (ofZ w8 z) ≡ idOf n
-held n h e = ap (λ (y : ℤ). toZ w8 (ofZ w8 y)) e ∙ ap idOf (octet-back n h)
 
 side : (used : Bool) (listed : ℕ → Bool) (id operation : ℕ)
     → cond used (listed operation) (eqb id 0 && eqb operation 0) ≡ soundIn used listed id operation

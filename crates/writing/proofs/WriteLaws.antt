@@ -1,5 +1,5 @@
 -- What is written in pieces is one writing, and how long it is.
-use Prim.Native.Nat.{ℕ, suc, _+_, _≤_, _<_}
+use Prim.Native.Nat.{ℕ, suc, _+_, _≤_}
 use mathlib.Core.Path.{_≡_, refl, sym, ap, _∙_, subst}
 use mathlib.Core.List.{List, [], _∷_, _++_, append-assoc}
 use native.Mathlib.Omega.{arith}
@@ -8,8 +8,7 @@ use lib.IntN.{ℤ}
 use mathlib.Core.Bool.{Bool, true, false, cond}
 use lib.Dec.{eqb, eqb·suc-zero}
 use Rattle.octets.specs.Splice.{splice}
-use Rattle.codes.specs.Ids.{idOf, octetOf}
-use Rattle.codes.proofs.IdLaws.{IsId, id-back}
+use Rattle.codes.specs.Ids.{octetOf}
 use Rattle.octets.proofs.SpliceLaws.{splice-splice}
 use Rattle.elements.specs.Element.{shortest, header, written}
 use Rattle.elements.proofs.ElementLaws.{shortest-length}
@@ -53,10 +52,6 @@ six-length tag a b c d e f p =
     let n : suc (suc (suc (suc (suc (suc (length p)))))) ≡ 6 + length p = omega arith in
     let w = written-length tag (a ∷ b ∷ c ∷ d ∷ e ∷ f ∷ p) in
     w ∙ rw n (omega arith)
-
--- an id as the code hands it on
-pub handed : {id : ℤ} {n : ℕ} → IsId id → n ≡ octetOf (idOf (octetOf id)) → n ≡ octetOf id
-handed h e = e ∙ ap octetOf (id-back h)
 
 -- what was written and where it ends, by another name of the same octets
 pub as-written : {e : List ℕ} {r : ℕ} (b : List ℕ) (at : ℕ) {v w : List ℕ} → v ≡ w → (e ≡ splice b at v) × (r ≡ at + length v) → (e ≡ splice b at w) × (r ≡ at + length w)

@@ -1,5 +1,7 @@
 use borrow.Author.Needs.{needs}
-use mathlib.Core.Path.{sym, _∙_}
+use mathlib.Core.Path.{_≡_, sym, _∙_}
+use mathlib.Core.Bool.{true, false}
+use Rattle.codes.specs.Errors.{listed}
 use borrow.Author.Tests.{not-true, not-false}
 use Rattle.table.specs.Seen.{invokeSeen}
 use Rattle.judging.specs.StepSix.{judgeError}
@@ -23,14 +25,17 @@ is-listed-requires c κs = search needs
 
 returns-2 : tie.Need-returns-2
 unfolding judgeError
-returns-2 c = rw (sym (among-is (invokeSeen (c .before .before .before .before .args .slot .own)) (c .before .before .before .before .fits .id) (c .before .before .before .is-among .ensures)) ∙ not-false _ (c .before .before .if1 .left), sym (c .before .is-listed .ensures) ∙ not-true _ (c .if2 .taken))
+returns-2 c =
+    let l : listed (c .before .before .before .before .args .code) ≡ false = sym (c .before .is-listed .ensures) ∙ not-true _ (c .if2 .taken) in
+    rw (sym (among-is (invokeSeen (c .before .before .before .before .args .slot .own)) (c .before .before .before .before .fits .id) (c .before .before .before .is-among .ensures)) ∙ not-false _ (c .before .before .if1 .left), l)
 
 returns-3 : tie.Need-returns-3
 unfolding judgeError
 returns-3 c =
     let w = c .before .before .before .before .args .slot .own in
     let m = sym (among-is (invokeSeen w) (c .before .before .before .before .fits .id) (c .before .before .before .is-among .ensures)) ∙ not-false _ (c .before .before .if1 .left) in
-    rw (m, sym (c .before .is-listed .ensures) ∙ not-false _ (c .if2 .left), cleared (c .before .before .before .before .args .id) w m)
+    let l : listed (c .before .before .before .before .args .code) ≡ true = sym (c .before .is-listed .ensures) ∙ not-false _ (c .if2 .left) in
+    rw (m, l, cleared (c .before .before .before .before .args .id) w m)
 
 pub judge-error-spec : {M : Type 1} → statement M
 judge-error-spec =

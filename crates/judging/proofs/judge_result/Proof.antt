@@ -1,9 +1,12 @@
 use borrow.Author.Needs.{needs}
 use mathlib.Core.Path.{_≡_, sym, _∙_, ap}
-use mathlib.Core.Bool.{Bool, _&&_}
+use mathlib.Core.Bool.{true, false, _&&_}
+use Rattle.components.specs.Seen.{operationSeen}
+use Rattle.parameters.specs.Suits.{suits}
+use Rattle.parameters.specs.declared.suits.Place.the-variants.{ResultReceived}
 use borrow.Author.Tests.{not-true, not-false}
 use Rattle.table.specs.Seen.{invokeSeen}
-use Rattle.judging.specs.StepSix.{judgeResult}
+use Rattle.judging.specs.StepSix.{isOurs, judgeResult}
 use Rattle.judging.proofs.Paths.{among-is, operation-is, cleared}
 use Rattle.judging.proofs.judge_result.Statement.{statement}
 use Rattle.judging.proofs.judge_result.Tie as tie
@@ -34,7 +37,7 @@ returns-2 : tie.Need-returns-2
 unfolding judgeResult
 returns-2 c =
     let ws = invokeSeen (c .before .before .before .before .before .before .before .args .slot .own) in
-    let b = rw (c .before .before .is-ours .ensures, c .before .is-suited .ensures) at (not-true (c .before .before .is-ours .result && c .before .is-suited .result) (c .if2 .taken)) in
+    let b : isOurs (operationSeen (c .before .before .before .before .before .before .before .args .operation)) (c .before .before .before .waiting-operation .result) && suits ResultReceived (c .before .before .before .waiting-operation .result) (c .before .before .before .before .before .before .before .args .p .now) ≡ false = rw (c .before .before .is-ours .ensures, c .before .is-suited .ensures) at (not-true (c .before .before .is-ours .result && c .before .is-suited .result) (c .if2 .taken)) in
     rw (sym (among-is ws (c .before .before .before .before .before .before .before .fits .id) (c .before .before .before .before .before .is-among .ensures)) ∙ not-false _ (c .before .before .before .before .if1 .left), ← operation-is ws (c .before .before .before .before .before .before .before .fits .id) (c .before .before .before .waiting-operation .ensures), b)
 
 returns-3 : tie.Need-returns-3
@@ -42,7 +45,7 @@ unfolding judgeResult
 returns-3 c =
     let w = c .before .before .before .before .before .before .before .args .slot .own in
     let m = sym (among-is (invokeSeen w) (c .before .before .before .before .before .before .before .fits .id) (c .before .before .before .before .before .is-among .ensures)) ∙ not-false _ (c .before .before .before .before .if1 .left) in
-    let b = rw (c .before .before .is-ours .ensures, c .before .is-suited .ensures) at (not-false (c .before .before .is-ours .result && c .before .is-suited .result) (c .if2 .left)) in
+    let b : isOurs (operationSeen (c .before .before .before .before .before .before .before .args .operation)) (c .before .before .before .waiting-operation .result) && suits ResultReceived (c .before .before .before .waiting-operation .result) (c .before .before .before .before .before .before .before .args .p .now) ≡ true = rw (c .before .before .is-ours .ensures, c .before .is-suited .ensures) at (not-false (c .before .before .is-ours .result && c .before .is-suited .result) (c .if2 .left)) in
     rw (m, ← operation-is (invokeSeen w) (c .before .before .before .before .before .before .before .fits .id) (c .before .before .before .waiting-operation .ensures), b, cleared (c .before .before .before .before .before .before .before .args .id) w m)
 
 pub judge-result-spec : {M : Type 1} → statement M

@@ -3,7 +3,8 @@ use native.Mathlib.Omega.{arith}
 use Prim.Native.Nat.{_<_}
 use lib.ListN.{getD, length-drop}
 use Rattle.octets.proofs.PartLaws.{rest-part}
-use Rattle.places.proofs.Left.{held, problem-is}
+use Rattle.places.proofs.Left.{problem-is}
+use Rattle.codes.proofs.IdLaws.{held}
 use Rattle.places.proofs.Paths.{called-none, called-length, called-tag, called-plain, called-fault, called-linked}
 use Rattle.places.proofs.read_calls.Statement.{statement}
 use Rattle.places.proofs.read_calls.Tie as tie

@@ -2,7 +2,8 @@ use borrow.Author.Needs.{needs}
 use native.Mathlib.Omega.{arith}
 use Prim.Native.Nat.{_<_}
 use lib.ListN.{getD}
-use Rattle.places.proofs.Left.{held, problem-is}
+use Rattle.places.proofs.Left.{problem-is}
+use Rattle.codes.proofs.IdLaws.{held}
 use Rattle.places.proofs.Paths.{rejected-none, rejected-full, rejected-null, rejected-tag, rejected-length, rejected-is}
 use Rattle.places.proofs.read_rejected.Statement.{statement}
 use Rattle.places.proofs.read_rejected.Tie as tie

@@ -1,5 +1,5 @@
 use borrow.Author.Needs.{needs}
-use Rattle.table.proofs.Steps.{held}
+use Rattle.codes.proofs.IdLaws.{held}
 use Rattle.table.proofs.waiting.Statement.{statement}
 use Rattle.table.proofs.waiting.Tie as tie
 use Rattle.table.proofs.waiting.Reads as reads

@@ -6,7 +6,8 @@ use Prim.Native.Nat.{ℕ, _+_, _≤_}
 use lib.ListN.{length}
 use Rattle.codes.specs.Ids.{octetOf}
 use Rattle.elements.specs.Element.{written}
-use Rattle.writing.proofs.WriteLaws.{handed, pieces, pieces-length, as-written, fits-as, answer-bare, answer-full, inner-length}
+use Rattle.writing.proofs.WriteLaws.{pieces, pieces-length, as-written, fits-as, answer-bare, answer-full, inner-length}
+use Rattle.codes.proofs.IdLaws.{handed}
 use Rattle.writing.proofs.write_answer.Statement.{statement}
 use Rattle.writing.proofs.write_answer.Tie as tie
 use Rattle.writing.proofs.write_answer.Reads as reads

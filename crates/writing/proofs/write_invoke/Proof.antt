@@ -2,7 +2,7 @@ use borrow.Author.Needs.{needs}
 use native.Mathlib.Omega.{arith}
 use mathlib.Core.Path.{sym, _∙_}
 use Rattle.components.specs.Written.{contents}
-use Rattle.writing.proofs.WriteLaws.{handed}
+use Rattle.codes.proofs.IdLaws.{handed}
 use Rattle.writing.proofs.write_invoke.Statement.{statement}
 use Rattle.writing.proofs.write_invoke.Tie as tie
 use Rattle.writing.proofs.write_invoke.Reads as reads

@@ -1,9 +1,8 @@
 use borrow.Author.Needs.{needs}
 use native.Mathlib.Omega.{arith}
 use mathlib.Core.Path.{sym, _∙_}
-use Rattle.codes.proofs.IdLaws.{IsId}
+use Rattle.codes.proofs.IdLaws.{IsId, handed}
 use Rattle.components.specs.Written.{contents}
-use Rattle.writing.proofs.WriteLaws.{handed}
 use Rattle.writing.proofs.write_reject.Statement.{statement}
 use Rattle.writing.proofs.write_reject.Tie as tie
 use Rattle.writing.proofs.write_reject.Reads as reads

@@ -4,7 +4,7 @@ use mathlib.Core.Path.{ap, sym, _∙_}
 use lib.ListN.{length, drop, length-drop}
 use Rattle.octets.proofs.PartLaws.{rest-part}
 use Rattle.components.specs.Facility.{shows}
-use Rattle.places.proofs.Left.{held}
+use Rattle.codes.proofs.IdLaws.{held}
 use Rattle.components.proofs.Paths.{shown-end, inside-faulty, inside-reject, inside-none, inside-fault, inside-shows}
 use Rattle.components.proofs.facility.read_inside.Statement.{statement}
 use Rattle.components.proofs.facility.read_inside.Tie as tie

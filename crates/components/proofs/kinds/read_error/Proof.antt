@@ -1,5 +1,5 @@
 use borrow.Author.Needs.{needs}
-use Rattle.places.proofs.Left.{held}
+use Rattle.codes.proofs.IdLaws.{held}
 use Rattle.components.proofs.Paths.{error-none, error-is}
 use Rattle.components.proofs.kinds.read_error.Statement.{statement}
 use Rattle.components.proofs.kinds.read_error.Tie as tie

@@ -1,7 +1,7 @@
 use borrow.Author.Needs.{needs}
 use native.Mathlib.Omega.{arith}
 use Rattle.octets.proofs.PartLaws.{rest-part}
-use Rattle.places.proofs.Left.{held}
+use Rattle.codes.proofs.IdLaws.{held}
 use Rattle.components.proofs.Paths.{invoke-none, invoke-fault, invoke-is}
 use Rattle.components.proofs.kinds.read_invoke.Statement.{statement}
 use Rattle.components.proofs.kinds.read_invoke.Tie as tie

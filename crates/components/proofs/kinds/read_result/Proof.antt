@@ -1,6 +1,7 @@
 use borrow.Author.Needs.{needs}
 use native.Mathlib.Omega.{arith}
-use Rattle.places.proofs.Left.{held, problem-is, something-left}
+use Rattle.places.proofs.Left.{problem-is, something-left}
+use Rattle.codes.proofs.IdLaws.{held}
 use Rattle.components.proofs.Paths.{result-bare, result-none, result-tag, result-fault, result-behind, result-is}
 use Prim.Native.Nat.{_≤_}
 use lib.ListN.{length}

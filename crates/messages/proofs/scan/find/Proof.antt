@@ -15,10 +15,10 @@ use Rattle.messages.proofs.scan.find.Lts as lts
 use Rattle.messages.proofs.scan.read_item.Reads as read-item-reads
 
 abbrev Inv-loop : tie.InvT-loop
-Inv-loop s identifier i₀ i = (i ≤ length s) × (firstTaken identifier (drop i s) ≡ firstTaken identifier s)
+Inv-loop s identifier at₀ at = (at ≤ length s) × (firstTaken identifier (drop at s) ≡ firstTaken identifier s)
 
 abbrev μ-loop : tie.MeasureT-loop
-μ-loop s identifier i₀ i = length s - i
+μ-loop s identifier at₀ at = length s - at
 
 loop-holds : tie.Need-loop-holds Inv-loop μ-loop
 loop-holds c = (omega arith, refl)
@@ -42,14 +42,14 @@ add-from : tie.Need-add-from Inv-loop μ-loop
 add-from c =
     let l = c .before .before .before .before .before .before .loop in
     let s = c .before .before .before .before .before .before .before .before .args .s .now in
-    let w = simp length-drop at (rw (c .before .before .met .given .1, rest-part (l .i) s) at (c .before .before .before .before .read-item .ensures .1)) in
+    let w = simp length-drop at (rw (c .before .before .met .given .1, rest-part (l .at) s) at (c .before .before .before .before .read-item .ensures .1)) in
     omega arith
 
 add-to : tie.Need-add-to Inv-loop μ-loop
 add-to c =
     let l = c .before .before .before .before .before .before .loop in
     let s = c .before .before .before .before .before .before .before .before .args .s .now in
-    let w = simp length-drop at (rw (c .before .before .met .given .1, rest-part (l .i) s) at (c .before .before .before .before .read-item .ensures .1)) in
+    let w = simp length-drop at (rw (c .before .before .met .given .1, rest-part (l .at) s) at (c .before .before .before .before .read-item .ensures .1)) in
     omega arith
 
 returns : tie.Need-returns Inv-loop μ-loop
@@ -57,22 +57,22 @@ returns c =
     let l = c .before .before .before .before .before .before .loop in
     let s = c .before .before .before .before .before .before .before .before .args .s .now in
     let g = c .before .before .met .given in
-    let w = simp length-drop at (rw (g .1, rest-part (l .i) s) at (c .before .before .before .before .read-item .ensures .1)) in
-    let e = rw (g .1, rest-part (l .i) s) at (c .before .before .before .before .read-item .ensures .0) in
-    (found-at s (l .i) (c .before .before .before .before .before .before .before .before .args .identifier) (g .0 .0) (g .0 .1 .0) (g .0 .1 .1 .0) e (c .if1 .taken) ∙ l .inv .1, omega arith)
+    let w = simp length-drop at (rw (g .1, rest-part (l .at) s) at (c .before .before .before .before .read-item .ensures .1)) in
+    let e = rw (g .1, rest-part (l .at) s) at (c .before .before .before .before .read-item .ensures .0) in
+    (found-at s (l .at) (c .before .before .before .before .before .before .before .before .args .identifier) (g .0 .0) (g .0 .1 .0) (g .0 .1 .1 .0) e (c .if1 .taken) ∙ l .inv .1, omega arith)
 
-add-i : tie.Need-add-i Inv-loop μ-loop
-add-i c =
+add-at : tie.Need-add-at Inv-loop μ-loop
+add-at c =
     let l = c .before .before .before .before .before .before .loop in
     let s = c .before .before .before .before .before .before .before .before .args .s .now in
-    let w = simp length-drop at (rw (c .before .before .met .given .1, rest-part (l .i) s) at (c .before .before .before .before .read-item .ensures .1)) in
+    let w = simp length-drop at (rw (c .before .before .met .given .1, rest-part (l .at) s) at (c .before .before .before .before .read-item .ensures .1)) in
     omega arith
 
 loop-less : tie.Need-loop-less Inv-loop μ-loop
 loop-less c =
     let l = c .before .before .before .before .before .before .loop in
     let s = c .before .before .before .before .before .before .before .before .args .s .now in
-    let w = simp length-drop at (rw (c .before .before .met .given .1, rest-part (l .i) s) at (c .before .before .before .before .read-item .ensures .1)) in
+    let w = simp length-drop at (rw (c .before .before .met .given .1, rest-part (l .at) s) at (c .before .before .before .before .read-item .ensures .1)) in
     omega arith
 
 loop-again : tie.Need-loop-again Inv-loop μ-loop
@@ -80,16 +80,16 @@ loop-again c =
     let l = c .before .before .before .before .before .before .loop in
     let s = c .before .before .before .before .before .before .before .before .args .s .now in
     let g = c .before .before .met .given in
-    let w = simp length-drop at (rw (g .1, rest-part (l .i) s) at (c .before .before .before .before .read-item .ensures .1)) in
-    let e = rw (g .1, rest-part (l .i) s) at (c .before .before .before .before .read-item .ensures .0) in
-    (omega arith, sym (find-on s (l .i) (c .before .before .before .before .before .before .before .before .args .identifier) (g .0 .0) (g .0 .1 .0) (g .0 .1 .1 .0) e (c .if1 .left)) ∙ l .inv .1)
+    let w = simp length-drop at (rw (g .1, rest-part (l .at) s) at (c .before .before .before .before .read-item .ensures .1)) in
+    let e = rw (g .1, rest-part (l .at) s) at (c .before .before .before .before .read-item .ensures .0) in
+    (omega arith, sym (find-on s (l .at) (c .before .before .before .before .before .before .before .before .args .identifier) (g .0 .0) (g .0 .1 .0) (g .0 .1 .1 .0) e (c .if1 .left)) ∙ l .inv .1)
 
 returns-2 : tie.Need-returns-2 Inv-loop μ-loop
 returns-2 c =
     let l = c .before .before .before .loop in
     let s = c .before .before .before .before .before .args .s .now in
-    let w = not-whole (c .before .read-item .result) (drop (l .i) s) (c .match .keys2) (rw (rest-part (l .i) s) at (c .before .read-item .ensures .0)) in
-    (sym (taken-none (c .before .before .before .before .before .args .identifier) (drop (l .i) s) (w .0) (w .1)) ∙ l .inv .1, tt)
+    let w = not-whole (c .before .read-item .result) (drop (l .at) s) (c .match .keys2) (rw (rest-part (l .at) s) at (c .before .read-item .ensures .0)) in
+    (sym (taken-none (c .before .before .before .before .before .args .identifier) (drop (l .at) s) (w .0) (w .1)) ∙ l .inv .1, tt)
 
 pub find-spec : {M : Type 1} → statement M
 find-spec =
@@ -106,7 +106,7 @@ find-spec =
     add-from
     add-to
     returns
-    add-i
+    add-at
     loop-less
     loop-again
     returns-2)

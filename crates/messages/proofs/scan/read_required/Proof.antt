@@ -1,6 +1,8 @@
 use borrow.Author.Needs.{needs}
 use native.Mathlib.Omega.{arith}
-use mathlib.Core.Path.{sym, _∙_}
+use mathlib.Core.Path.{_≡_, sym, _∙_}
+use lib.ListN.{drop}
+use Rattle.messages.specs.Scan.{clear}
 use borrow.Author.Tests.{not-true, not-false}
 use Rattle.octets.proofs.PartLaws.{rest-part}
 use Rattle.messages.proofs.Paths.{required-missing, required-refused, required-is}
@@ -39,14 +41,14 @@ returns-2 : tie.Need-returns-2
 returns-2 c =
     let s = c .before .before .before .before .before .before .before .before .args .s .now in
     let g = c .before .before .before .before .start .given in
-    let h = rw (rest-part (g .0 .1 .0) s) at (c .before .is-clear .ensures) in
+    let h : c .before .is-clear .result ≡ clear (drop (g .0 .1 .0) s) = simp rest-part at (c .before .is-clear .ensures) in
     (required-refused s (c .before .before .before .before .before .before .before .before .args .kind) _ (g .0 .1 .0) (rw (g .1) at (c .before .before .before .before .before .before .read-mandatory .ensures .0)) (sym h ∙ not-true _ (c .if1 .taken)), tt)
 
 returns-3 : tie.Need-returns-3
 returns-3 c =
     let s = c .before .before .before .before .before .before .before .before .args .s .now in
     let g = c .before .before .before .before .start .given in
-    let h = rw (rest-part (g .0 .1 .0) s) at (c .before .is-clear .ensures) in
+    let h : c .before .is-clear .result ≡ clear (drop (g .0 .1 .0) s) = simp rest-part at (c .before .is-clear .ensures) in
     (required-is s (c .before .before .before .before .before .before .before .before .args .kind) _ (g .0 .1 .0) (rw (g .1) at (c .before .before .before .before .before .before .read-mandatory .ensures .0)) (sym h ∙ not-false _ (c .if1 .left)), rw (g .1) at (c .before .before .before .before .before .before .read-mandatory .ensures .1))
 
 pub read-required-spec : {M : Type 1} → statement M
