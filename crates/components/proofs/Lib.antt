@@ -1,4 +1,4 @@
-mod Paths
+pub mod Paths
 pub mod ReadBack
 pub mod LaterLaws
 pub mod FaultIds

@@ -1,3 +1,3 @@
-mod Paths
+pub mod Paths
 pub mod Determined
 pub mod Worked

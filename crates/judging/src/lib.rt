@@ -38,7 +38,8 @@ pub fn is_among(id: i8, waiting: Invoke) -> bool
     }
 }
 
-fn is_full(waiting: Invoke) -> bool
+// Whether there is no room for another.
+pub fn is_full(waiting: Invoke) -> bool
     ensures { λ r. ⌜ r ≡ full (invokeSeen waiting) ⌝ }
 {
     match waiting {
@@ -55,7 +56,7 @@ fn is_full(waiting: Invoke) -> bool
 }
 
 // The operation that waits under this id; 0 where none does.
-fn waiting_operation(id: i8, waiting: Invoke) -> u8
+pub fn waiting_operation(id: i8, waiting: Invoke) -> u8
     ensures { λ r. ⌜ r ≡ operationOf id (invokeSeen waiting) ⌝ }
 {
     match waiting {

@@ -1,10 +1,11 @@
 -- Parts: how long they are, at the ends of a list, and a part of a part.
-use Prim.Native.Nat.{ℕ, suc, _+_, _-_, _≤_, _<_, min}
+use Prim.Native.Nat.{ℕ, zero, suc, _+_, _-_, _≤_, _<_, min}
 use mathlib.Core.Path.{_≡_, refl, sym, ap, _∙_}
-use mathlib.Core.List.{List, []}
+use mathlib.Core.List.{List, [], _∷_}
 use native.Mathlib.Omega.{arith}
+use native.Mathlib.Nat.{sub-zero}
 use lib.ListN.{length, take, drop, getD, length-take, length-drop, drop-of-length-le}
-use lib.Seq.{take-all, take-nil, take-take, drop-drop, getD-take, getD-drop}
+use lib.Seq.{take-all, take-nil, take-take, drop-nil, drop-drop, getD-take, getD-drop}
 use Rattle.octets.specs.Part.{between}
 
 pub length-between : (from to : ℕ) (s : List ℕ) → to ≤ length s → length (between from to s) ≡ to - from
@@ -28,3 +29,10 @@ rest-part i s = to-end i (length s) s (omega arith)
 
 pub getD-between : (from to : ℕ) (s : List ℕ) (k : ℕ) → k < to - from → getD (between from to s) k 0 ≡ getD s (from + k) 0
 getD-between from to s k h = getD-take (to - from) (drop from s) k 0 h ∙ getD-drop from s k 0
+
+-- a part is what is left behind its start, up to its end
+pub from-taken : (from to : ℕ) (s : List ℕ) → between from to s ≡ drop from (take to s)
+from-taken zero to s = rw sub-zero
+from-taken (suc from) zero s = let h : zero - suc from ≡ zero = omega arith in rw (h, drop-nil)
+from-taken (suc from) (suc to) [] = rw take-nil
+from-taken (suc from) (suc to) (x ∷ s) = let h : suc to - suc from ≡ to - from = omega arith in rw h (from-taken from to s)

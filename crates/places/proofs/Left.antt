@@ -6,9 +6,11 @@ use mathlib.Core.Logic.{⊎-elim}
 use native.Mathlib.Omega.{arith}
 use types.Run.{OneOf}
 use denote.Enum.Declared.{tagOf}
-use lib.ListN.{length, drop, length-drop}
+use lib.ListN.{length, take, drop, length-take, length-drop}
 use lib.Seq.{drop-drop}
+use Rattle.octets.specs.Part.{between}
 use Rattle.octets.specs.Reader.{fault, isEmpty}
+use Rattle.octets.proofs.PartLaws.{from-taken}
 use Rattle.elements.specs.Found.{seen}
 use Rattle.elements.specs.declared.Found.{Found}
 use Rattle.elements.specs.declared.Found.the-variants.{Missing, Whole}
@@ -47,3 +49,15 @@ pub last-end : (s : List ℕ) (a n : ℕ) → a ≤ length s → n ≤ length (d
 last-end s a n k l =
     let h : a + (length (drop a s) - n) ≡ length s - n = omega (arith, length-drop a s) in
     drop-drop (length (drop a s) - n) a s ∙ ap (λ (j : ℕ). drop j s) h
+
+-- the last octets of a part are the last up to its end
+pub last-part : (s : List ℕ) (a e n : ℕ) → a ≤ e → e ≤ length s → n ≤ length (between a e s) → last n (between a e s) ≡ last n (take e s)
+last-part s a e n h l k =
+    let b : a ≤ length (take e s) = rw (length-take e s) (omega arith) in
+    rw (from-taken a e s) (last-end (take e s) a n b (rw (from-taken a e s) at k))
+
+-- and they are a part
+pub last-taken : (s : List ℕ) (e n : ℕ) → n ≤ e → e ≤ length s → between (e - n) e s ≡ last n (take e s)
+last-taken s e n h l =
+    let b : length (take e s) ≡ e = rw (length-take e s) (omega arith) in
+    rw b (from-taken (e - n) e s)

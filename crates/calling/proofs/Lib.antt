@@ -1,0 +1,3 @@
+pub mod Lengths
+mod Paths
+pub mod Determined

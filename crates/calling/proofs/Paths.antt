@@ -1,0 +1,313 @@
+-- What the definitions say on each path through the code: a law for each return, in the order of the code.
+use Prim.Native.Nat.{ℕ, _+_, _*_, _≤_, _<_}
+use native.Mathlib.Omega.{arith}
+use mathlib.Core.Path.{_≡_, refl, _∙_}
+use mathlib.Core.List.{List, [], _∷_}
+use mathlib.Core.Bool.{Bool, true, false, cond, _&&_}
+use mathlib.Core.Option.{none, some}
+use borrow.Author.Tests.{lt-leb, le-leb, leb-true}
+use lib.IntN.{ℤ}
+use lib.ListN.{length}
+use lib.Dec.{leb, eqb}
+use Rattle.octets.specs.Reader.{fault, sound}
+use Rattle.codes.specs.Ids.{idOf, octetOf}
+use Rattle.codes.specs.Operations.{begins}
+use Rattle.codes.specs.Errors.{listed}
+use Rattle.codes.proofs.IdLaws.{IsId, id-back}
+use Rattle.parameters.specs.Suits.{suits, noneOrOne}
+use Rattle.parameters.specs.declared.suits.Place.the-variants.{InvokeWritten, ResultWritten}
+use Rattle.components.specs.Component.{invoke, error}
+use Rattle.components.specs.Written.{octets, answer, codedLength, answerLength}
+use Rattle.messages.specs.Layout.{sentFirst, register, facilityMessage, release}
+use Rattle.table.specs.Table.{place, named, entryAt, valid, lowestClosed}
+use Rattle.table.specs.Seen.{invokeSeen, slotSeen}
+use Rattle.table.specs.declared.Slot.{Slot}
+use Rattle.table.specs.declared.Invoke.{Invoke}
+use Rattle.table.specs.declared.Named.{Named}
+use Rattle.table.proofs.TableLaws.{valid-each, lowest-closed-is}
+use Rattle.judging.specs.StepSix.{among, full, operationOf}
+use Rattle.judging.proofs.Paths.{room as none-waits, cleared}
+use Rattle.calling.specs.Calls.{Sending, transaction, fitting, begin, invokeWithin, sendResult, sendError, sendRelease}
+use Rattle.calling.specs.Seen.{callSeen, CallWithin, lengthRefusal, NamedWithin}
+use Rattle.calling.specs.declared.Call.{Call}
+use Rattle.calling.proofs.Lengths.{too-long, refused, fits, register-octets, facility-invoke, facility-error, facility-answer, long-answer}
+
+-- an entry of a table that is whole
+within : (t : List ℕ) (k : ℕ) → valid t ≡ true → k ≤ 13 → 5 * k + 5 ≤ length t
+within t k v h = omega (arith, valid-each t v .0)
+
+-- an entry that a flag and a value name
+place-within : (flag value : ℕ) → value ≤ 6 → place flag value ≤ 13
+place-within flag value h = by (eqb flag 1)
+  where
+    by : (b : Bool) → cond b value (7 + value) ≤ 13
+    by true = omega arith
+    by false = omega arith
+
+named-within : (flag value k : ℕ) → named flag value ≡ some k → (flag ≤ 1) × ((value ≤ 6) × (k ≤ 13))
+named-within flag value k e = by (leb flag 1) (leb value 6) refl refl e
+  where
+    by : (a b : Bool) → leb flag 1 ≡ a → leb value 6 ≡ b → cond (a && b) (some (place flag value)) none ≡ some k → (flag ≤ 1) × ((value ≤ 6) × (k ≤ 13))
+    by true true p q e =
+        let h : value ≤ 6 = leb-true _ _ q in
+        let z : place flag value ≡ k = cc in
+        (leb-true _ _ p, (h, rw z at (place-within flag value h)))
+    by true false p q e = let z : _≡_ {A = ℕ} 0 1 = cc in absurd (omega arith)
+    by false b p q e = let z : _≡_ {A = ℕ} 0 1 = cc in absurd (omega arith)
+
+-- the entry of an open transaction
+module _ (table : List ℕ) (flag value : ℕ) where
+  pub not-named : named flag value ≡ none → fault 22 ≡ transaction table flag value
+  unfolding transaction
+  not-named e = rw e
+
+  module _ (k : ℕ) (slot : Slot) (e : named flag value ≡ some k) (seen : slotSeen slot ≡ entryAt table k) where
+    pub not-open : slot .«open» ≡ false → fault 22 ≡ transaction table flag value
+    unfolding transaction
+    not-open o = rw (e, ← seen, o)
+
+    pub is-open : slot .«open» ≡ true → (sound k ≡ transaction table flag value) × NamedWithin flag value (Named.At k)
+    unfolding transaction
+    is-open o = (rw (e, ← seen, o), named-within flag value k e)
+
+-- begin; an id that the code stores is the one that its octet says
+module _ (table : List ℕ) (room operation : ℕ) (id : ℤ) (p : List ℕ) where
+  abbrev begun : ℕ → ℕ → List ℕ
+  begun v o = register (sentFirst 1 v) (octets (invoke id none operation p))
+
+  begin-sends : ℕ → Sending
+  begin-sends v = record { entry = v; becomes = record { isOpen = true; own = record { id = id; operation = operation } ∷ []; peer = [] }; message = begun v operation }
+
+  abbrev pub begunSlot : Slot
+  begunSlot = record { «open» = true; own = Invoke.Waits (idOf (octetOf id)) operation; peer = Invoke.Absent }
+
+  pub begin-damaged : valid table ≡ false → fault 28 ≡ begin table room operation id p
+  unfolding begin
+  begin-damaged d = rw d
+
+  module _ (d : valid table ≡ true) where
+    pub begin-unlisted : begins operation ≡ false → fault 20 ≡ begin table room operation id p
+    unfolding begin
+    begin-unlisted b = rw (d, b)
+
+    module _ (b : begins operation ≡ true) where
+      pub begin-full : lowestClosed table ≡ none → fault 21 ≡ begin table room operation id p
+      unfolding begin
+      begin-full l = rw (d, b, l)
+
+      module _ (v : ℕ) (l : lowestClosed table ≡ some v) where
+        pub begin-unsuited : suits InvokeWritten operation p ≡ false → fault 25 ≡ begin table room operation id p
+        unfolding begin
+        begin-unsuited s = rw (d, b, l, s)
+
+        module _ (s : suits InvokeWritten operation p ≡ true) where
+          begin-ready : fitting room (begin-sends v) ≡ begin table room operation id p
+          unfolding begin begin-sends
+          begin-ready = rw (d, b, l, s)
+
+          pub begin-long : 255 < length p → fault 26 ≡ begin table room operation id p
+          unfolding begin-sends
+          begin-long h = too-long room (begin-sends v) (7 + codedLength (length p)) (register-octets (sentFirst 1 v) id operation p) (omega arith) ∙ begin-ready
+
+          module _ (r : ℕ) (e : r ≡ lengthRefusal (7 + codedLength (length p)) room) where
+            pub begin-refused : (r ≡ 0 → ⊥) → fault r ≡ begin table room operation id p
+            unfolding begin-sends
+            begin-refused n = refused room (begin-sends v) (7 + codedLength (length p)) (register-octets (sentFirst 1 v) id operation p) r e n ∙ begin-ready
+
+            pub begin-goes : r ≡ 0 → IsId id → (callSeen begun (Call.Goes v begunSlot operation) ≡ begin table room operation id p) × CallWithin table room 1 0 begun (Call.Goes v begunSlot operation)
+            unfolding begin-sends
+            begin-goes z i =
+                let f = fits room (begin-sends v) (7 + codedLength (length p)) (register-octets (sentFirst 1 v) id operation p) r e z in
+                (rw (id-back i) (f .0 ∙ begin-ready), (within table v d (omega (arith, lowest-closed-is table v l .0)), (omega arith, (omega arith, f .1))))
+
+-- invoke within
+module _ (table : List ℕ) (room flag value operation : ℕ) (id : ℤ) (p : List ℕ) where
+  abbrev invoked : ℕ → ℕ → List ℕ
+  invoked k o = facilityMessage (sentFirst flag value) (octets (invoke id none operation p))
+
+  invoke-sends : ℕ → Slot → Sending
+  invoke-sends k slot = record { entry = k; becomes = record { isOpen = true; own = record { id = id; operation = operation } ∷ []; peer = invokeSeen (slot .peer) }; message = invoked k operation }
+
+  abbrev pub invokedSlot : Slot → Slot
+  invokedSlot slot = record { «open» = true; own = Invoke.Waits (idOf (octetOf id)) operation; peer = slot .peer }
+
+  pub invoke-damaged : valid table ≡ false → fault 28 ≡ invokeWithin table room flag value operation id p
+  unfolding invokeWithin
+  invoke-damaged d = rw d
+
+  module _ (d : valid table ≡ true) where
+    pub invoke-unlisted : begins operation ≡ false → fault 20 ≡ invokeWithin table room flag value operation id p
+    unfolding invokeWithin
+    invoke-unlisted b = rw (d, b)
+
+    module _ (b : begins operation ≡ true) where
+      pub invoke-closed : fault 22 ≡ transaction table flag value → fault 22 ≡ invokeWithin table room flag value operation id p
+      unfolding invokeWithin
+      invoke-closed t = rw (d, b, ← t)
+
+      module _ (k : ℕ) (t : sound k ≡ transaction table flag value) (slot : Slot) (seen : slotSeen slot ≡ entryAt table k) where
+        pub invoke-full : full (invokeSeen (slot .own)) ≡ true → fault 23 ≡ invokeWithin table room flag value operation id p
+        unfolding invokeWithin
+        invoke-full f = rw (d, b, ← t, ← seen, f)
+
+        module _ (f : full (invokeSeen (slot .own)) ≡ false) where
+          pub invoke-unsuited : suits InvokeWritten operation p ≡ false → fault 25 ≡ invokeWithin table room flag value operation id p
+          unfolding invokeWithin
+          invoke-unsuited s = rw (d, b, ← t, ← seen, f, s)
+
+          module _ (s : suits InvokeWritten operation p ≡ true) where
+            invoke-ready : fitting room (invoke-sends k slot) ≡ invokeWithin table room flag value operation id p
+            unfolding invokeWithin invoke-sends
+            invoke-ready = rw (d, b, ← t, ← seen, f, s, none-waits (slot .own) f)
+
+            pub invoke-long : 255 < length p → fault 26 ≡ invokeWithin table room flag value operation id p
+            unfolding invoke-sends
+            invoke-long h = too-long room (invoke-sends k slot) (3 + codedLength (length p)) (facility-invoke (sentFirst flag value) id operation p) (omega arith) ∙ invoke-ready
+
+            module _ (r : ℕ) (e : r ≡ lengthRefusal (3 + codedLength (length p)) room) where
+              pub invoke-refused : (r ≡ 0 → ⊥) → fault r ≡ invokeWithin table room flag value operation id p
+              unfolding invoke-sends
+              invoke-refused n = refused room (invoke-sends k slot) (3 + codedLength (length p)) (facility-invoke (sentFirst flag value) id operation p) r e n ∙ invoke-ready
+
+              pub invoke-goes : r ≡ 0 → IsId id → NamedWithin flag value (Named.At k)
+                  → (callSeen invoked (Call.Goes k (invokedSlot slot) operation) ≡ invokeWithin table room flag value operation id p)
+                  × CallWithin table room flag value invoked (Call.Goes k (invokedSlot slot) operation)
+              unfolding invoke-sends
+              invoke-goes z i w =
+                  let f = fits room (invoke-sends k slot) (3 + codedLength (length p)) (facility-invoke (sentFirst flag value) id operation p) r e z in
+                  (rw (id-back i) (f .0 ∙ invoke-ready), (within table k d (w .1 .1), (w .0, (w .1 .0, f .1))))
+
+-- the peer's invoke is answered
+abbrev pub clearedSlot : Slot → Slot
+clearedSlot slot = record { «open» = slot .«open»; own = slot .own; peer = Invoke.Absent }
+
+-- result
+module _ (table : List ℕ) (room flag value : ℕ) (id : ℤ) (p : List ℕ) where
+  abbrev answered : ℕ → ℕ → List ℕ
+  answered k o = facilityMessage (sentFirst flag value) (octets (answer id o p))
+
+  result-sends : ℕ → Slot → ℕ → Sending
+  result-sends k slot o = record { entry = k; becomes = record { isOpen = slot .«open»; own = invokeSeen (slot .own); peer = [] }; message = answered k o }
+
+  pub result-damaged : valid table ≡ false → fault 28 ≡ sendResult table room flag value id p
+  unfolding sendResult
+  result-damaged d = rw d
+
+  module _ (d : valid table ≡ true) where
+    pub result-closed : fault 22 ≡ transaction table flag value → fault 22 ≡ sendResult table room flag value id p
+    unfolding sendResult
+    result-closed t = rw (d, ← t)
+
+    module _ (k : ℕ) (t : sound k ≡ transaction table flag value) (slot : Slot) (seen : slotSeen slot ≡ entryAt table k) where
+      pub result-unasked : among id (invokeSeen (slot .peer)) ≡ false → fault 24 ≡ sendResult table room flag value id p
+      unfolding sendResult
+      result-unasked a = rw (d, ← t, ← seen, a)
+
+      module _ (a : among id (invokeSeen (slot .peer)) ≡ true) (o : ℕ) (q : o ≡ operationOf id (invokeSeen (slot .peer))) where
+        pub result-unsuited : suits ResultWritten o p ≡ false → fault 25 ≡ sendResult table room flag value id p
+        unfolding sendResult
+        result-unsuited s = rw (d, ← t, ← seen, a, ← q, s)
+
+        module _ (s : suits ResultWritten o p ≡ true) where
+          result-ready : fitting room (result-sends k slot o) ≡ sendResult table room flag value id p
+          unfolding sendResult result-sends
+          result-ready = rw (d, ← t, ← seen, a, ← q, s, cleared id (slot .peer) a)
+
+          pub result-long : 255 < length p → fault 26 ≡ sendResult table room flag value id p
+          unfolding result-sends
+          result-long h = too-long room (result-sends k slot o) (3 + answerLength (length p)) (facility-answer (sentFirst flag value) id o p) (long-answer (length p) h) ∙ result-ready
+
+          module _ (r : ℕ) (e : r ≡ lengthRefusal (3 + answerLength (length p)) room) where
+            pub result-refused : (r ≡ 0 → ⊥) → fault r ≡ sendResult table room flag value id p
+            unfolding result-sends
+            result-refused n = refused room (result-sends k slot o) (3 + answerLength (length p)) (facility-answer (sentFirst flag value) id o p) r e n ∙ result-ready
+
+            pub result-goes : r ≡ 0 → NamedWithin flag value (Named.At k)
+                → (callSeen answered (Call.Goes k (clearedSlot slot) o) ≡ sendResult table room flag value id p)
+                × CallWithin table room flag value answered (Call.Goes k (clearedSlot slot) o)
+                × (o ≡ operationOf id (entryAt table k .peer))
+            unfolding result-sends
+            result-goes z w =
+                let f = fits room (result-sends k slot o) (3 + answerLength (length p)) (facility-answer (sentFirst flag value) id o p) r e z in
+                (f .0 ∙ result-ready, (within table k d (w .1 .1), (w .0, (w .1 .0, f .1))), rw (← seen) q)
+
+-- error
+module _ (table : List ℕ) (room flag value : ℕ) (id : ℤ) (code : ℕ) (p : List ℕ) where
+  abbrev erred : ℕ → ℕ → List ℕ
+  erred k o = facilityMessage (sentFirst flag value) (octets (error id code p))
+
+  error-sends : ℕ → Slot → Sending
+  error-sends k slot = record { entry = k; becomes = record { isOpen = slot .«open»; own = invokeSeen (slot .own); peer = [] }; message = erred k 0 }
+
+  pub error-damaged : valid table ≡ false → fault 28 ≡ sendError table room flag value id code p
+  unfolding sendError
+  error-damaged d = rw d
+
+  module _ (d : valid table ≡ true) where
+    pub error-unlisted : listed code ≡ false → fault 20 ≡ sendError table room flag value id code p
+    unfolding sendError
+    error-unlisted b = rw (d, b)
+
+    module _ (b : listed code ≡ true) where
+      pub error-closed : fault 22 ≡ transaction table flag value → fault 22 ≡ sendError table room flag value id code p
+      unfolding sendError
+      error-closed t = rw (d, b, ← t)
+
+      module _ (k : ℕ) (t : sound k ≡ transaction table flag value) (slot : Slot) (seen : slotSeen slot ≡ entryAt table k) where
+        pub error-unasked : among id (invokeSeen (slot .peer)) ≡ false → fault 24 ≡ sendError table room flag value id code p
+        unfolding sendError
+        error-unasked a = rw (d, b, ← t, ← seen, a)
+
+        module _ (a : among id (invokeSeen (slot .peer)) ≡ true) where
+          pub error-unsuited : noneOrOne p ≡ false → fault 25 ≡ sendError table room flag value id code p
+          unfolding sendError
+          error-unsuited s = rw (d, b, ← t, ← seen, a, s)
+
+          module _ (s : noneOrOne p ≡ true) where
+            error-ready : fitting room (error-sends k slot) ≡ sendError table room flag value id code p
+            unfolding sendError error-sends
+            error-ready = rw (d, b, ← t, ← seen, a, s, cleared id (slot .peer) a)
+
+            pub error-long : 255 < length p → fault 26 ≡ sendError table room flag value id code p
+            unfolding error-sends
+            error-long h = too-long room (error-sends k slot) (3 + codedLength (length p)) (facility-error (sentFirst flag value) id code p) (omega arith) ∙ error-ready
+
+            module _ (r : ℕ) (e : r ≡ lengthRefusal (3 + codedLength (length p)) room) where
+              pub error-refused : (r ≡ 0 → ⊥) → fault r ≡ sendError table room flag value id code p
+              unfolding error-sends
+              error-refused n = refused room (error-sends k slot) (3 + codedLength (length p)) (facility-error (sentFirst flag value) id code p) r e n ∙ error-ready
+
+              pub error-goes : r ≡ 0 → NamedWithin flag value (Named.At k)
+                  → (callSeen erred (Call.Goes k (clearedSlot slot) 0) ≡ sendError table room flag value id code p)
+                  × CallWithin table room flag value erred (Call.Goes k (clearedSlot slot) 0)
+              unfolding error-sends
+              error-goes z w =
+                  let f = fits room (error-sends k slot) (3 + codedLength (length p)) (facility-error (sentFirst flag value) id code p) r e z in
+                  (f .0 ∙ error-ready, (within table k d (w .1 .1), (w .0, (w .1 .0, f .1))))
+
+-- release
+abbrev pub closedSlot : Slot
+closedSlot = record { «open» = false; own = Invoke.Absent; peer = Invoke.Absent }
+
+module _ (table : List ℕ) (room flag value : ℕ) where
+  abbrev released : ℕ → ℕ → List ℕ
+  released k o = release (sentFirst flag value)
+
+  pub release-damaged : valid table ≡ false → fault 28 ≡ sendRelease table room flag value
+  unfolding sendRelease
+  release-damaged d = rw d
+
+  module _ (d : valid table ≡ true) where
+    pub release-closed : fault 22 ≡ transaction table flag value → fault 22 ≡ sendRelease table room flag value
+    unfolding sendRelease
+    release-closed t = rw (d, ← t)
+
+    module _ (k : ℕ) (t : sound k ≡ transaction table flag value) where
+      pub release-short : room < 2 → fault 27 ≡ sendRelease table room flag value
+      unfolding sendRelease fitting
+      release-short h = rw (d, ← t, lt-leb 2 room h)
+
+      pub release-goes : 2 ≤ room → NamedWithin flag value (Named.At k)
+          → (callSeen released (Call.Goes k closedSlot 0) ≡ sendRelease table room flag value) × CallWithin table room flag value released (Call.Goes k closedSlot 0)
+      unfolding sendRelease fitting
+      release-goes h w = (rw (d, ← t, le-leb 2 room h), (within table k d (w .1 .1), (w .0, (w .1 .0, (omega arith, h)))))

@@ -1,0 +1,113 @@
+-- The contract leaves one answer: two decisions that say the same of a message, and lie within it, are equal.
+use Prim.Native.Nat.{ℕ, _≤_}
+use mathlib.Core.Path.{_≡_, refl, ap}
+use mathlib.Core.List.{List, []}
+use mathlib.Core.Option.{Option, some}
+use native.Mathlib.Omega.{arith}
+use lib.IntN.{ℤ}
+use lib.ListN.{length, take, length-take, length-drop}
+use Rattle.octets.specs.Reader.{Taken}
+use Rattle.places.specs.Seen.{idSeen}
+use Rattle.places.specs.declared.Id.{Id}
+use Rattle.components.specs.Component.{Component}
+use Rattle.components.specs.Facility.{general, shows}
+use Rattle.components.specs.Seen.{shownSeen, parameterLength}
+use Rattle.components.specs.declared.shown.Shown.{Shown}
+use Rattle.components.specs.declared.facility.Reading.{Reading}
+use Rattle.components.proofs.Determined.{reading-determined}
+use Rattle.messages.proofs.Determined.{part-determined}
+use Rattle.table.specs.Table.{Entry}
+use Rattle.table.proofs.Determined.{slot-determined}
+use Rattle.deciding.specs.Decision.{Shows, withReject, onReject, released, taken}
+use Rattle.deciding.specs.Seen.{toldSeen, ToldWithin, decisionSeen, DecisionWithin}
+use Rattle.deciding.specs.declared.Told.{Told}
+use Rattle.deciding.specs.declared.Decision.{Decision}
+
+-- an id and a component are parts of a reading
+general-inj : {i j : Id} → Reading.General 0 i ≡ Reading.General 0 j → i ≡ j
+general-inj e = cc
+
+id-determined : (i j : Id) → idSeen i ≡ idSeen j → i ≡ j
+id-determined i j e = general-inj (reading-determined [] (Reading.General 0 i) (Reading.General 0 j) tt tt (ap (general 0) e))
+
+shows-inj : {r q : Shown} → Reading.Shows r ≡ Reading.Shows q → r ≡ q
+shows-inj e = cc
+
+shown-determined : (s : List ℕ) (r q : Shown) → parameterLength r ≤ length s → parameterLength q ≤ length s → shownSeen s r ≡ shownSeen s q → r ≡ q
+shown-determined s r q a b e = shows-inj (reading-determined s (Reading.Shows r) (Reading.Shows q) a b (ap shows e))
+
+some-inj : {a b : Taken Component} → some a ≡ some b → a ≡ b
+some-inj e = cc
+
+told-determined : (s : List ℕ) (r q : Told) → ToldWithin s r → ToldWithin s q → toldSeen s r ≡ toldSeen s q → r ≡ q
+told-determined s Told.Nothing Told.Nothing a b e = refl
+told-determined s Told.Nothing (Told.Is q j) a b e = cc
+told-determined s (Told.Is r i) Told.Nothing a b e = cc
+told-determined s (Told.Is r i) (Told.Is q j) a b e =
+    let g = some-inj e in
+    let x : i ≡ j = omega (arith, simp length-drop at (ap (λ (h : Taken Component). length (h .rest)) g)) in
+    let f : shownSeen (take j s) r ≡ shownSeen (take j s) q = rw x at (ap (λ (h : Taken Component). h .value) g) in
+    let k : length (take j s) ≡ j = rw (length-take j s) (omega arith) in
+    let y = shown-determined (take j s) r q (omega arith) (omega arith) f in
+    λ n. Told.Is (y n) (x n)
+
+reject-inj : {i j : Option ℤ} {t u n m : ℕ} → withReject i t n ≡ withReject j u m → (i ≡ j) × (t ≡ u) × (n ≡ m)
+reject-inj e = (cc, cc, cc)
+
+on-inj : {a b : Shows} → onReject a ≡ onReject b → a ≡ b
+on-inj e = cc
+
+released-inj : {a b : Shows} {p o : Option (Taken (List ℕ))} → released a p ≡ released b o → (a ≡ b) × (p ≡ o)
+released-inj e = (cc, cc)
+
+taken-inj : {z w : Entry} {a b : Shows} → taken z a ≡ taken w b → (z ≡ w) × (a ≡ b)
+taken-inj e = (cc, cc)
+
+pub decision-determined : (s : List ℕ) (r q : Decision) → DecisionWithin s r → DecisionWithin s q → decisionSeen s r ≡ decisionSeen s q → r ≡ q
+decision-determined s (Decision.Silent n) (Decision.Silent m) a b e = cc
+decision-determined s (Decision.Silent n) (Decision.WithCause m) a b e = cc
+decision-determined s (Decision.Silent n) (Decision.WithReject j u m) a b e = cc
+decision-determined s (Decision.Silent n) (Decision.OnReject y) a b e = cc
+decision-determined s (Decision.Silent n) (Decision.Released y o) a b e = cc
+decision-determined s (Decision.Silent n) (Decision.Taken w y) a b e = cc
+decision-determined s (Decision.WithCause n) (Decision.Silent m) a b e = cc
+decision-determined s (Decision.WithCause n) (Decision.WithCause m) a b e = cc
+decision-determined s (Decision.WithCause n) (Decision.WithReject j u m) a b e = cc
+decision-determined s (Decision.WithCause n) (Decision.OnReject y) a b e = cc
+decision-determined s (Decision.WithCause n) (Decision.Released y o) a b e = cc
+decision-determined s (Decision.WithCause n) (Decision.Taken w y) a b e = cc
+decision-determined s (Decision.WithReject i t n) (Decision.Silent m) a b e = cc
+decision-determined s (Decision.WithReject i t n) (Decision.WithCause m) a b e = cc
+decision-determined s (Decision.WithReject i t n) (Decision.WithReject j u m) a b e =
+    let f = reject-inj e in
+    let g = id-determined i j (f .0) in
+    λ k. Decision.WithReject (g k) (f .1 k) (f .2 k)
+decision-determined s (Decision.WithReject i t n) (Decision.OnReject y) a b e = cc
+decision-determined s (Decision.WithReject i t n) (Decision.Released y o) a b e = cc
+decision-determined s (Decision.WithReject i t n) (Decision.Taken w y) a b e = cc
+decision-determined s (Decision.OnReject x) (Decision.Silent m) a b e = cc
+decision-determined s (Decision.OnReject x) (Decision.WithCause m) a b e = cc
+decision-determined s (Decision.OnReject x) (Decision.WithReject j u m) a b e = cc
+decision-determined s (Decision.OnReject x) (Decision.OnReject y) a b e = ap Decision.OnReject (told-determined s x y a b (on-inj e))
+decision-determined s (Decision.OnReject x) (Decision.Released y o) a b e = cc
+decision-determined s (Decision.OnReject x) (Decision.Taken w y) a b e = cc
+decision-determined s (Decision.Released x p) (Decision.Silent m) a b e = cc
+decision-determined s (Decision.Released x p) (Decision.WithCause m) a b e = cc
+decision-determined s (Decision.Released x p) (Decision.WithReject j u m) a b e = cc
+decision-determined s (Decision.Released x p) (Decision.OnReject y) a b e = cc
+decision-determined s (Decision.Released x p) (Decision.Released y o) a b e =
+    let f = released-inj e in
+    let g = told-determined s x y (a .0) (b .0) (f .0) in
+    let h = part-determined s p o (a .1) (b .1) (f .1) in
+    λ k. Decision.Released (g k) (h k)
+decision-determined s (Decision.Released x p) (Decision.Taken w y) a b e = cc
+decision-determined s (Decision.Taken z x) (Decision.Silent m) a b e = cc
+decision-determined s (Decision.Taken z x) (Decision.WithCause m) a b e = cc
+decision-determined s (Decision.Taken z x) (Decision.WithReject j u m) a b e = cc
+decision-determined s (Decision.Taken z x) (Decision.OnReject y) a b e = cc
+decision-determined s (Decision.Taken z x) (Decision.Released y o) a b e = cc
+decision-determined s (Decision.Taken z x) (Decision.Taken w y) a b e =
+    let f = taken-inj e in
+    let g = slot-determined z w (f .0) in
+    let h = told-determined s x y a b (f .1) in
+    λ k. Decision.Taken (g k) (h k)

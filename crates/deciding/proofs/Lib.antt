@@ -1,0 +1,2 @@
+mod Paths
+pub mod Determined

@@ -1,0 +1,21 @@
+use borrow.Author.Needs.{needs}
+use Rattle.codes.proofs.IdLaws.{id-back}
+use Rattle.deciding.proofs.rule.Statement.{statement}
+use Rattle.deciding.proofs.rule.Tie as tie
+use Rattle.deciding.proofs.rule.Reads as reads
+use Rattle.deciding.proofs.rule.Lts as lts
+
+enum-known-verdict : tie.Need-enum-known-verdict
+enum-known-verdict c = search needs
+
+returns : tie.Need-returns
+returns c = (rw (c .before .verdict .given .1, id-back (c .before .before .before .fits .id)), tt)
+
+enum-known-verdict-2 : tie.Need-enum-known-verdict-2
+enum-known-verdict-2 c = search needs
+
+returns-2 : tie.Need-returns-2
+returns-2 c = (rw (c .before .verdict2 .given .1), search needs)
+
+pub rule-spec : {M : Type 1} → statement M
+rule-spec = tie.close (tie.spec enum-known-verdict returns enum-known-verdict-2 returns-2)

@@ -1,0 +1,351 @@
+// What a received message is found to be: the steps in order, and nothing written.
+use components::facility::Reading;
+use components::shown::Shown;
+use judging::Verdict;
+use messages::layout::Body;
+use messages::layout::MessageType;
+use messages::scan::Part;
+use places::Id;
+use table::Slot;
+ghost use mathlib.Core.Path.{_≡_};
+ghost use mathlib.Core.Bool.{false};
+ghost use Prim.Native.Nat.{_≤_};
+ghost use lib.ListN.{length, take, drop};
+ghost use Rattle.octets.specs.Part.{between};
+ghost use Rattle.components.specs.Facility.{facility};
+ghost use Rattle.components.specs.Seen.{shownSeen, parameterLength};
+ghost use Rattle.table.specs.Seen.{slotSeen};
+ghost use Rattle.judging.specs.Seen.{verdictSeen};
+ghost use Rattle.deciding.specs.Decision.{shownBy};
+ghost use Rattle.deciding.specs.Steps.{onJudged, stepSix, stepFive, stepFour, exceptInvoke, onRelease, stepTwo, firstOf, entryOf, replyFirst, decide};
+ghost use Rattle.deciding.specs.Seen.{toldSeen, ToldWithin, decisionSeen, DecisionWithin, isSilent, Ready};
+
+// A component that is shown, and where its Facility value ends.
+pub enum Told {
+    Nothing,
+    Is { shown: Shown, end: usize },
+}
+
+// One verdict's case each, and what is needed to act on it.
+pub enum Decision {
+    Silent(u8),
+    WithCause(u8),
+    WithReject { id: Id, tag: u8, number: u8 },
+    OnReject(Told),
+    Released { told: Told, cause: Part },
+    Taken { slot: Slot, told: Told },
+}
+
+// Step 6's answer.
+fn rule(s: &[u8], verdict: Verdict, id: i8, shown: Shown, end: usize) -> Decision
+    requires { ⌜ (parameterLength shown ≤ end) × (end ≤ length (now s)) ⌝ }
+    ensures decides { λ r. ⌜ decisionSeen (now (s .entry)) r ≡ onJudged (verdictSeen verdict) id (shownSeen (take end (now (s .entry))) shown) (drop end (now (s .entry))) ⌝ }
+    ensures within { λ r. ⌜ DecisionWithin (now (s .entry)) r ⌝ }
+{
+    match verdict {
+        Verdict::Problem { tag, number } => {
+            return Decision::WithReject {
+                id: Id::Is(id),
+                tag: tag,
+                number: number,
+            };
+        }
+        Verdict::Accepted(slot) => {
+            return Decision::Taken {
+                slot: slot,
+                told: Told::Is {
+                    shown: shown,
+                    end: end,
+                },
+            };
+        }
+    }
+}
+
+// Step 6: the component against its entry.
+fn weigh_component(slot: Slot, shown: Shown, s: &[u8], end: usize) -> Decision
+    requires { ⌜ (parameterLength shown ≤ end) × (end ≤ length (now s)) ⌝ }
+    ensures decides { λ r. ⌜ decisionSeen (now (s .entry)) r ≡ stepSix (slotSeen slot) (shownSeen (take end (now (s .entry))) shown) (drop end (now (s .entry))) ⌝ }
+    ensures within { λ r. ⌜ DecisionWithin (now (s .entry)) r ⌝ }
+{
+    let p = &s[end - components::shown::parameter_length(shown)..end];
+    match shown {
+        Shown::Invoke {
+            id,
+            linked,
+            operation,
+            parameter: _,
+        } => {
+            let verdict = judging::judge_invoke(slot, id, linked, operation, p);
+            return rule(s, verdict, id, shown, end);
+        }
+        Shown::Result {
+            id,
+            operation,
+            parameter: _,
+        } => {
+            let verdict = judging::judge_result(slot, id, operation, p);
+            return rule(s, verdict, id, shown, end);
+        }
+        Shown::Error {
+            id,
+            code,
+            parameter: _,
+        } => {
+            let verdict = judging::judge_error(slot, id, code);
+            return rule(s, verdict, id, shown, end);
+        }
+        Shown::Reject {
+            id: _,
+            tag: _,
+            problem: _,
+        } => {
+            return Decision::OnReject(Told::Is {
+                shown: shown,
+                end: end,
+            });
+        }
+    }
+}
+
+// Step 5: what the Facility value says.
+fn weigh(slot: Slot, s: &[u8], start: usize, end: usize) -> Decision
+    requires { ⌜ (start ≤ end) × (end ≤ length (now s)) ⌝ }
+    ensures decides { λ r. ⌜ decisionSeen (now (s .entry)) r ≡ stepFive (slotSeen slot) (facility (between start end (now (s .entry)))) (drop end (now (s .entry))) ⌝ }
+    ensures within { λ r. ⌜ DecisionWithin (now (s .entry)) r ⌝ }
+{
+    let own = slot.own;
+    let peer = slot.peer;
+    match components::facility::read_facility(&s[start..end]) {
+        Reading::Empty => {
+            return Decision::Taken {
+                slot: Slot {
+                    open: true,
+                    own: own,
+                    peer: peer,
+                },
+                told: Told::Nothing,
+            };
+        }
+        Reading::Shows(shown) => {
+            return weigh_component(slot, shown, s, end);
+        }
+        Reading::General { problem, id } => {
+            return Decision::WithReject {
+                id: id,
+                tag: 0x80,
+                number: problem,
+            };
+        }
+        Reading::LeftOver => {
+            return Decision::WithCause(29);
+        }
+        Reading::FaultyReject => {
+            return Decision::OnReject(Told::Nothing);
+        }
+    }
+}
+
+// Step 4: the mandatory part and what must be understood, for REGISTER and FACILITY.
+fn decide_required(slot: Slot, s: &[u8], kind: u8) -> Decision
+    ensures decides { λ r. ⌜ decisionSeen (now (s .entry)) r ≡ stepFour (slotSeen slot) kind (now (s .entry)) ⌝ }
+    ensures within { λ r. ⌜ DecisionWithin (now (s .entry)) r ⌝ }
+{
+    let Body::Facility { start, end } = messages::scan::read_required(s, kind) else {
+        return Decision::WithCause(96);
+    };
+    weigh(slot, s, start, end)
+}
+
+// A RELEASE COMPLETE shows no Invoke.
+fn except_invoke(s: &[u8], told: Told) -> Told
+    requires { ⌜ ToldWithin (now s) told ⌝ }
+    ensures shows { λ r. ⌜ toldSeen (now (s .entry)) r ≡ exceptInvoke (toldSeen (now (s .entry)) told) ⌝ }
+    ensures within { λ r. ⌜ ToldWithin (now (s .entry)) r ⌝ }
+{
+    let Told::Is { shown, end: _ } = told else {
+        return Told::Nothing;
+    };
+    match shown {
+        Shown::Invoke {
+            id: _,
+            linked: _,
+            operation: _,
+            parameter: _,
+        } => {
+            return Told::Nothing;
+        }
+        Shown::Result {
+            id: _,
+            operation: _,
+            parameter: _,
+        } => {
+            return told;
+        }
+        Shown::Error {
+            id: _,
+            code: _,
+            parameter: _,
+        } => {
+            return told;
+        }
+        Shown::Reject {
+            id: _,
+            tag: _,
+            problem: _,
+        } => {
+            return told;
+        }
+    }
+}
+
+// What a RELEASE COMPLETE shows of a decision.
+fn shown_in_release(s: &[u8], decision: Decision) -> Told
+    requires { ⌜ DecisionWithin (now s) decision ⌝ }
+    ensures shows { λ r. ⌜ toldSeen (now (s .entry)) r ≡ exceptInvoke (shownBy (decisionSeen (now (s .entry)) decision)) ⌝ }
+    ensures within { λ r. ⌜ ToldWithin (now (s .entry)) r ⌝ }
+{
+    match decision {
+        Decision::Silent(_) => {
+            return Told::Nothing;
+        }
+        Decision::WithCause(_) => {
+            return Told::Nothing;
+        }
+        Decision::WithReject {
+            id: _,
+            tag: _,
+            number: _,
+        } => {
+            return Told::Nothing;
+        }
+        Decision::OnReject(told) => {
+            return except_invoke(s, told);
+        }
+        Decision::Released { told, cause: _ } => {
+            return except_invoke(s, told);
+        }
+        Decision::Taken { slot: _, told } => {
+            return except_invoke(s, told);
+        }
+    }
+}
+
+// RELEASE COMPLETE of an open entry.
+fn decide_release(slot: Slot, s: &[u8]) -> Decision
+    ensures decides { λ r. ⌜ decisionSeen (now (s .entry)) r ≡ onRelease (slotSeen slot) (now (s .entry)) ⌝ }
+    ensures within { λ r. ⌜ DecisionWithin (now (s .entry)) r ⌝ }
+{
+    let cause = messages::scan::find(s, 0x08);
+    let Part::Between { start, end } = messages::scan::find(s, 0x1C) else {
+        return Decision::Released {
+            told: Told::Nothing,
+            cause: cause,
+        };
+    };
+    Decision::Released {
+        told: shown_in_release(s, weigh(slot, s, start, end)),
+        cause: cause,
+    }
+}
+
+// Steps 2 and 3, by the message's type and whether the entry is open.
+fn decide_by_type(slot: Slot, flag: u8, kind: u8, s: &[u8]) -> Decision
+    ensures decides { λ r. ⌜ decisionSeen (now (s .entry)) r ≡ stepTwo (slotSeen slot) flag kind (now (s .entry)) ⌝ }
+    ensures within { λ r. ⌜ DecisionWithin (now (s .entry)) r ⌝ }
+{
+    match messages::layout::type_of(kind) {
+        MessageType::ReleaseComplete => {
+            if !slot.open {
+                return Decision::Silent(1);
+            }
+            return decide_release(slot, s);
+        }
+        MessageType::Facility => {
+            if !slot.open {
+                return Decision::WithCause(81);
+            }
+            return decide_required(slot, s, 0x3A);
+        }
+        MessageType::Register => {
+            if slot.open {
+                return Decision::WithCause(98);
+            }
+            if flag == 1 {
+                return Decision::Silent(1);
+            }
+            return decide_required(slot, s, 0x3B);
+        }
+        MessageType::Unknown => {
+            return Decision::WithCause(97);
+        }
+    }
+}
+
+// The first octet; 0 where there is none.
+fn first_of(message: &[u8]) -> u8
+    ensures { λ r. ⌜ r ≡ firstOf (now (message .entry)) ⌝ }
+{
+    if message.len() < 1 {
+        return 0;
+    }
+    message[0]
+}
+
+// The entry that a message's first octet picks.
+pub fn entry_of(message: &[u8]) -> u8
+    ensures { λ r. ⌜ r ≡ entryOf (now (message .entry)) ⌝ }
+{
+    let first = first_of(message);
+    let value = messages::layout::value_of(first);
+    if messages::layout::flag_of(first) == 1 {
+        return value;
+    }
+    7 + value
+}
+
+// The first octet of what is sent in a message's transaction.
+pub fn reply_first(message: &[u8]) -> u8
+    ensures { λ r. ⌜ r ≡ replyFirst (now (message .entry)) ⌝ }
+{
+    let first = first_of(message);
+    messages::layout::sent_first(
+        messages::layout::flag_of(first),
+        messages::layout::value_of(first),
+    )
+}
+
+// 28 and 27, then the steps.
+pub fn decide(table: &[u8], message: &[u8], room: usize) -> Decision
+    ensures decides { λ r. ⌜ decisionSeen (drop 2 (now (message .entry))) r ≡ decide (now (table .entry)) (now (message .entry)) room ⌝ }
+    ensures within { λ r. ⌜ DecisionWithin (drop 2 (now (message .entry))) r ⌝ }
+    ensures ready { λ r. ⌜ (isSilent r ≡ false → Ready (now (table .entry)) (now (message .entry)) room) ⌝ }
+{
+    if !table::is_valid(table) {
+        return Decision::Silent(28);
+    }
+    if room < 12 {
+        return Decision::Silent(27);
+    }
+    if 255 < message.len() {
+        return Decision::Silent(6);
+    }
+    if message.len() < 2 {
+        return Decision::Silent(1);
+    }
+    let first = message[0];
+    if messages::layout::discriminator_of(first) != 11 {
+        return Decision::Silent(7);
+    }
+    let value = messages::layout::value_of(first);
+    if value == 7 {
+        return Decision::Silent(1);
+    }
+    let slot = table::read_entry(table, entry_of(message));
+    decide_by_type(
+        slot,
+        messages::layout::flag_of(first),
+        message[1],
+        &message[2..],
+    )
+}

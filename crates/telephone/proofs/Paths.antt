@@ -1,0 +1,129 @@
+-- What the definitions say on each path through the code.
+use Prim.Native.Nat.{ℕ, zero, suc, _+_, _*_, _/_, _%_, _≤_, _<_}
+use mathlib.Core.Path.{_≡_, refl, sym, ap, _∙_}
+use mathlib.Core.List.{List, []}
+use mathlib.Core.Bool.{Bool, true, false, cond}
+use mathlib.Core.Option.{Option, none, some}
+use native.Mathlib.Omega.{arith}
+use lib.ListN.{length, drop, length-drop}
+use lib.IntN.{ℤ}
+use lib.Dec.{leb, eqb}
+use borrow.Author.Tests.{ne-eqb}
+use Rattle.octets.specs.Reader.{Answer, fault, sound, Taken}
+use Rattle.octets.specs.Splice.{splice}
+use Rattle.octets.proofs.ReaderLaws.{sound-inj, through, passed}
+use Rattle.codes.specs.Operations.{begins}
+use Rattle.parameters.specs.Suits.{suits}
+use Rattle.parameters.specs.declared.suits.Place.the-variants.{InvokeWritten}
+use Rattle.components.specs.Component.{invoke, error}
+use Rattle.components.specs.Written.{octets, answer, codedLength, answerLength}
+use Rattle.messages.specs.Layout.{flag, value, register, facilityMessage}
+use Rattle.messages.specs.Seen.{partSeen}
+use Rattle.messages.specs.declared.scan.Part.{Part}
+use Rattle.table.specs.Table.{size, valid, lowestClosed, withEntry}
+use Rattle.table.proofs.TableLaws.{lowest-closed-is}
+use Rattle.calling.specs.Calls.{Sending, orRefused, fitting, begin}
+use Rattle.calling.proofs.Lengths.{register-octets, facility-invoke, facility-error, facility-answer}
+use Rattle.showing.specs.Views.{componentView, textView, causeView}
+use Rattle.deciding.specs.Decision.{Decision, Shows, silent, shownBy}
+use Rattle.deciding.specs.Steps.{firstOf, entryOf}
+use Rattle.deciding.specs.Seen.{toldSeen, Ready}
+use Rattle.deciding.specs.declared.Told.{Told}
+use Rattle.telephone.specs.Receive.{verdictOf, sentBy, tableBy, causeBy, act}
+use Rattle.telephone.specs.Calls.{called}
+use Rattle.telephone.specs.FromC.{shownAs, receivedOf, calledOf}
+use Rattle.telephone.specs.declared.receive.Received.{Received}
+
+place-most : (b : Bool) (v : ℕ) → v < 7 → cond b v (7 + v) < 14
+place-most true v h = omega arith
+place-most false v h = omega arith
+
+-- the entry of a message that is acted on lies in the image
+pub entry-fits : (t m : List ℕ) (room : ℕ) → Ready t m room → size * entryOf m + size ≤ length t
+unfolding entryOf
+entry-fits t m room h = let k = place-most (eqb (flag (firstOf m)) 1) (value (firstOf m)) (h .1 .1 .1) in let l = h .0 in omega arith
+
+-- nothing written leaves the buffer as lent
+pub splice-none : (b : List ℕ) → b ≡ splice b 0 []
+unfolding splice
+splice-none b = refl
+
+module _ (t m b : List ℕ) where
+  -- what is shown of the octets behind the head is shown of the message
+  pub acted : (d : Decision) (p : List ℕ) (r : Received) (code w : ℕ) (shows : List ℕ → Shows) (cause : List ℕ → Option (Taken (List ℕ))) (b′ t′ : List ℕ)
+      → 2 ≤ length m → p ≡ drop 2 m → code ≡ verdictOf d → shows (drop 2 m) ≡ shownBy d → cause (drop 2 m) ≡ causeBy d
+      → w ≡ length (sentBy m d) → b′ ≡ splice b 0 (sentBy m d) → t′ ≡ tableBy t m d
+      → r ≡ shownAs (2 + length p) code w (shows p) (cause p)
+      → (r ≡ receivedOf (length m) (act t m b d)) × ((b′ ≡ act t m b d .buffer) × (t′ ≡ act t m b d .table))
+  unfolding act
+  acted d p r code w shows cause b′ t′ h e v x y l f g q =
+      let n : 2 + length (drop 2 m) ≡ length m = omega (arith, length-drop 2 m) in
+      let z : r ≡ receivedOf (length m) (act t m b d) = q ∙ rw (e, n, x, y, v, l) in
+      (z, (f, g))
+
+  -- nothing is sent and nothing changes
+  pub unanswered : (code : ℕ) (p : List ℕ) (r : Received) → r ≡ shownAs (2 + length p) code 0 none none
+      → (r ≡ receivedOf (length m) (act t m b (silent code))) × ((b ≡ act t m b (silent code) .buffer) × (t ≡ act t m b (silent code) .table))
+  unfolding act componentView textView causeView
+  unanswered code p r q = (q, (splice-none b, refl))
+
+-- a call: refused, or sent
+module _ (t b : List ℕ) (value : Sending → ℕ) where
+  pub refused-as : (o : Answer Sending) (n : ℕ) → fault n ≡ o
+      → (record { code = n; value = 0; written = 0 } ≡ calledOf (called t b value o)) × ((b ≡ called t b value o .buffer) × (t ≡ called t b value o .table))
+  refused-as o n e = rw (← e) (refl, (refl, refl))
+
+  pub sent-as : (o : Answer Sending) (s : Sending) (v w : ℕ) (b′ t′ : List ℕ) → sound s ≡ o → v ≡ value s → w ≡ length (s .message)
+      → b′ ≡ splice b 0 (s .message) → t′ ≡ withEntry t (s .entry) (s .becomes)
+      → (record { code = 0; value = v; written = w } ≡ calledOf (called t b value o)) × ((b′ ≡ called t b value o .buffer) × (t′ ≡ called t b value o .table))
+  sent-as o s v w b′ t′ e x l f g =
+      let z : record { code = 0; value = v; written = w } ≡ calledOf (called t b value (sound s)) = λ i. record { code = 0; value = x i; written = l i } in
+      rw (← e) (z, (f, g))
+
+named-value : (o : Option ℕ) (v : ℕ) → orRefused 21 o ≡ sound v → o ≡ some v
+named-value none v e = cc
+named-value (some k) v e = ap some (sound-inj e)
+
+-- what fits is sent as it is
+fitting-is : (room : ℕ) (x s : Sending) → fitting room x ≡ sound s → x ≡ s
+unfolding fitting
+fitting-is room x s e = passed (leb (length (x .message)) 255) 26 _ s e λ a f. passed (leb (length (x .message)) room) 27 _ s f λ b g. sound-inj g
+
+-- the value that a begin takes is one of ours
+pub begin-value : (t : List ℕ) (room o : ℕ) (id : ℤ) (p : List ℕ) (s : Sending) → sound s ≡ begin t room o id p → s .entry < 7
+unfolding begin
+begin-value t room o id p s e =
+    passed (valid t) 28 _ s (sym e) λ e₁ f₁.
+    passed (begins o) 20 _ s f₁ λ e₂ f₂.
+    through (orRefused 21 (lowestClosed t)) _ s f₂ λ v e₃ f₃.
+    passed (suits InvokeWritten o p) 25 _ s f₃ λ e₄ f₄.
+    let h : v ≡ s .entry = ap (λ (z : Sending). z .entry) (fitting-is room _ s f₄) in
+    let k = lowest-closed-is t v (named-value (lowestClosed t) v e₃) .0 in
+    omega arith
+
+answer-least : (n : ℕ) → n ≤ 3 + answerLength n
+answer-least zero = omega arith
+answer-least (suc n) = let e : eqb (suc n) 0 ≡ false = ne-eqb (suc n) 0 (λ z. absurd (omega arith)) in rw e (omega arith)
+
+-- a message that fits tells the room that its parts need
+module _ (first : ℕ) (id : ℤ) (o : ℕ) (p : List ℕ) (room : ℕ) where
+  pub register-room : length (register first (octets (invoke id none o p))) ≤ 255 → length (register first (octets (invoke id none o p))) ≤ room
+      → (length p ≤ 255) × ((7 + codedLength (length p) ≤ 255) × (7 + codedLength (length p) ≤ room))
+  register-room h k = let e = register-octets first id o p in (omega arith, (omega arith, omega arith))
+
+  pub invoke-room : length (facilityMessage first (octets (invoke id none o p))) ≤ 255 → length (facilityMessage first (octets (invoke id none o p))) ≤ room
+      → (length p ≤ 255) × ((3 + codedLength (length p) ≤ 255) × (3 + codedLength (length p) ≤ room))
+  invoke-room h k = let e = facility-invoke first id o p in (omega arith, (omega arith, omega arith))
+
+  pub error-room : length (facilityMessage first (octets (error id o p))) ≤ 255 → length (facilityMessage first (octets (error id o p))) ≤ room
+      → (length p ≤ 255) × ((3 + codedLength (length p) ≤ 255) × (3 + codedLength (length p) ≤ room))
+  error-room h k = let e = facility-error first id o p in (omega arith, (omega arith, omega arith))
+
+  pub answer-room : length (facilityMessage first (octets (answer id o p))) ≤ 255 → length (facilityMessage first (octets (answer id o p))) ≤ room
+      → (length p ≤ 255) × ((3 + answerLength (length p) ≤ 255) × (3 + answerLength (length p) ≤ room))
+  answer-room h k =
+      let e = facility-answer first id o p in
+      let x : 3 + answerLength (length p) ≤ 255 = rw (← e) h in
+      let y : 3 + answerLength (length p) ≤ room = rw (← e) k in
+      let l = answer-least (length p) in
+      (omega arith, (x, y))

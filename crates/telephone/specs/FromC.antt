@@ -1,0 +1,27 @@
+-- What C gets of an outcome: every field is told by it.
+use Prim.Native.Nat.{ℕ}
+use mathlib.Core.List.{List}
+use mathlib.Core.Option.{Option}
+use Rattle.octets.specs.Reader.{Taken}
+use Rattle.deciding.specs.Decision.{Shows}
+use Rattle.showing.specs.Views.{componentView, textView, causeView}
+use Rattle.telephone.specs.Outcome.{Outcome}
+use Rattle.telephone.specs.declared.receive.Received.{Received}
+use Rattle.telephone.specs.declared.calls.Called.{Called}
+
+-- of a received message of n octets
+abbrev pub shownAs : ℕ → ℕ → ℕ → Shows → Option (Taken (List ℕ)) → Received
+shownAs n code written shows cause =
+    record {
+      code = code;
+      written = written;
+      shown = componentView n shows;
+      text = textView n shows;
+      cause = causeView n cause;
+    }
+
+abbrev pub receivedOf : ℕ → Outcome → Received
+receivedOf n o = shownAs n (o .code) (o .written) (o .shown) (o .cause)
+
+abbrev pub calledOf : Outcome → Called
+calledOf o = record { code = o .code; value = o .value; written = o .written }

@@ -1,0 +1,4 @@
+pub mod Outcome
+pub mod Receive
+pub mod Calls
+pub mod FromC

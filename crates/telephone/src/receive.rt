@@ -1,0 +1,129 @@
+// A received message.
+use deciding::Decision;
+use deciding::Told;
+use messages::scan::Part;
+use showing::CauseView;
+use showing::ComponentView;
+use showing::TextView;
+use table::Invoke;
+use table::Slot;
+ghost use mathlib.Core.Path.{_≡_};
+ghost use mathlib.Core.Bool.{false};
+ghost use Prim.Native.Nat.{_+_, _*_, _≤_};
+ghost use lib.ListN.{length, drop};
+ghost use Rattle.octets.specs.Part.{between};
+ghost use Rattle.messages.specs.Seen.{partSeen, PartWithin};
+ghost use Rattle.table.specs.Table.{size, closed, withEntry};
+ghost use Rattle.deciding.specs.Seen.{toldSeen, ToldWithin, decisionSeen, DecisionWithin, isSilent, Ready};
+ghost use Rattle.telephone.specs.Receive.{act, receive};
+ghost use Rattle.telephone.specs.FromC.{shownAs, receivedOf};
+
+// The verdict, or the refusal 27 or 28; how many octets of the reply are written; and what is shown.
+#[repr(C)]
+pub struct Received {
+    pub code: u8,
+    pub written: usize,
+    pub shown: ComponentView,
+    pub text: TextView,
+    pub cause: CauseView,
+}
+
+// What is shown, with the numbers of the call.
+fn show(s: &[u8], code: u8, written: usize, told: Told, cause: Part) -> Received
+    requires { ⌜ ToldWithin (now s) told × PartWithin (now s) cause ⌝ }
+    ensures { λ r. ⌜ r ≡ shownAs (2 + length (now (s .entry))) code written (toldSeen (now (s .entry)) told) (partSeen (now (s .entry)) cause) ⌝ }
+{
+    match told {
+        Told::Nothing => {
+            return Received {
+                code: code,
+                written: written,
+                shown: showing::no_component(),
+                text: showing::no_text(),
+                cause: showing::cause_view(s, cause),
+            };
+        }
+        Told::Is { shown, end } => {
+            return Received {
+                code: code,
+                written: written,
+                shown: showing::component_view(s, shown, end),
+                text: showing::text_view(s, shown, end),
+                cause: showing::cause_view(s, cause),
+            };
+        }
+    }
+}
+
+// Closes an entry.
+fn close(table: &mut [u8], k: u8)
+    requires { ⌜ size * k + size ≤ length (now table) ⌝ }
+    ensures { λ _. ⌜ now (table .exit) ≡ withEntry (now (table .entry)) k closed ⌝ }
+{
+    let slot = Slot {
+        open: false,
+        own: Invoke::Absent,
+        peer: Invoke::Absent,
+    };
+    table::write_entry(table, k, slot);
+}
+
+// The table of verdicts: what is sent, what becomes of the entry, what is shown.
+fn act(table: &mut [u8], message: &[u8], reply: &mut [u8], decision: Decision) -> Received
+    requires { ⌜ (isSilent decision ≡ false → Ready (now table) (now message) (length (now reply))) × DecisionWithin (drop 2 (now message)) decision ⌝ }
+    ensures returned { λ r. ⌜ r ≡ receivedOf (length (now (message .entry))) (act (now (table .entry)) (now (message .entry)) (now (reply .entry)) (decisionSeen (drop 2 (now (message .entry))) decision)) ⌝ }
+    ensures reply { λ _. ⌜ now (reply .exit) ≡ act (now (table .entry)) (now (message .entry)) (now (reply .entry)) (decisionSeen (drop 2 (now (message .entry))) decision) .buffer ⌝ }
+    ensures table { λ _. ⌜ now (table .exit) ≡ act (now (table .entry)) (now (message .entry)) (now (reply .entry)) (decisionSeen (drop 2 (now (message .entry))) decision) .table ⌝ }
+{
+    let s = octets::part(message, 2, message.len());
+    let k = deciding::entry_of(message);
+    let first = deciding::reply_first(message);
+    match decision {
+        Decision::Silent(code) => {
+            return show(s, code, 0, Told::Nothing, Part::Nothing);
+        }
+        Decision::WithCause(number) => {
+            let written = sending::write_release_cause(reply, first, number);
+            close(table, k);
+            return show(s, 2, written, Told::Nothing, Part::Nothing);
+        }
+        Decision::WithReject { id, tag, number } => {
+            let written = sending::write_release_reject(reply, first, id, tag, number);
+            close(table, k);
+            return show(s, 3, written, Told::Nothing, Part::Nothing);
+        }
+        Decision::OnReject(told) => {
+            let written = sending::write_release(reply, first);
+            close(table, k);
+            return show(s, 4, written, told, Part::Nothing);
+        }
+        Decision::Released { told, cause } => {
+            close(table, k);
+            return show(s, 5, 0, told, cause);
+        }
+        Decision::Taken { slot, told } => {
+            table::write_entry(table, k, slot);
+            return show(s, 0, 0, told, Part::Nothing);
+        }
+    }
+}
+
+// A message of any length and content, in any state of the table, gets its one verdict.
+#[no_mangle]
+pub extern "C" fn smr_receive(table: &mut [u8], message: &[u8], reply: &mut [u8]) -> Received
+    ensures returned { λ r. ⌜ r ≡ receivedOf (length (now (message .entry))) (receive (now (table .entry)) (now (message .entry)) (now (reply .entry))) ⌝ }
+    ensures reply { λ _. ⌜ now (reply .exit) ≡ receive (now (table .entry)) (now (message .entry)) (now (reply .entry)) .buffer ⌝ }
+    ensures table { λ _. ⌜ now (table .exit) ≡ receive (now (table .entry)) (now (message .entry)) (now (reply .entry)) .table ⌝ }
+{
+    let decision = deciding::decide(table, message, reply.len());
+    act(table, message, reply, decision)
+}
+
+// The parameter of a shown component, as a part of the caller's own message.
+pub fn shown_parameter(message: &[u8], received: Received) -> &[u8]
+    ensures { λ r. ⌜ now r ≡ between (received .shown .parameter .start) (received .shown .parameter .end) (now (message .entry)) ⌝ }
+{
+    let shown = received.shown;
+    let parameter = shown.parameter;
+    octets::part(message, parameter.start, parameter.end)
+}

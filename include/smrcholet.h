@@ -1,0 +1,152 @@
+/* Smrcholet: supplementary service messages, read, written and kept in order.
+ *
+ * Every call is safe with any octets and any lengths; NULL is allowed where the
+ * length is 0. There is no heap and no state but the table that you lend: 70
+ * octets, all zero at the start, handed to each call and never shared by two
+ * calls at once. No two of the slices of one call may overlap.
+ */
+#ifndef SMRCHOLET_H
+#define SMRCHOLET_H
+
+#include <stdbool.h>
+#include <stddef.h>
+#include <stdint.h>
+
+#ifdef __cplusplus
+extern "C" {
+#endif
+
+/* The length of the table, and the room that every reply finds. */
+#define SMR_TABLE 70
+#define SMR_REPLY 12
+/* No message that is sent is longer. */
+#define SMR_MESSAGE 255
+
+/* Verdicts on a received message. */
+#define SMR_TAKEN 0           /* nothing is sent */
+#define SMR_IGNORED 1         /* nothing is sent or changed */
+#define SMR_RELEASED_CAUSE 2  /* send the reply: a release with a cause */
+#define SMR_RELEASED_REJECT 3 /* send the reply: a release with a Reject */
+#define SMR_REJECTED 4        /* a Reject came; send the reply: a release */
+#define SMR_RELEASED 5        /* the network released; nothing is sent */
+#define SMR_TOO_LONG 6        /* over 255 octets; nothing is changed */
+#define SMR_OTHER_PROTOCOL 7  /* not ours; nothing is changed */
+
+/* Refusals: nothing is written, no transaction changes. 27 and 28 may come for
+ * a received message too. */
+#define SMR_NO_OPERATION 20   /* operation or error code not listed */
+#define SMR_NO_VALUE 21       /* begin: all our values are open */
+#define SMR_NOT_OPEN 22       /* no open transaction of this flag and value */
+#define SMR_OUTSTANDING 23    /* invoke: ours still waits for its answer */
+#define SMR_NO_INVOKE 24      /* result, error: no such peer invoke waits */
+#define SMR_PARAMETER 25      /* the parameter is not of its kind */
+#define SMR_LONG_MESSAGE 26   /* the message would pass 255 octets */
+#define SMR_SHORT_BUFFER 27   /* the buffer is too short */
+#define SMR_DAMAGED 28        /* the table is damaged, or not 70 octets */
+
+/* Kinds of component: their outer tags. */
+#define SMR_NOTHING 0x00
+#define SMR_INVOKE 0xA1
+#define SMR_RESULT 0xA2
+#define SMR_ERROR 0xA3
+#define SMR_REJECT 0xA4
+
+/* Problem tags of a Reject. */
+#define SMR_PROBLEM_GENERAL 0x80
+#define SMR_PROBLEM_INVOKE 0x81
+#define SMR_PROBLEM_RESULT 0x82
+#define SMR_PROBLEM_ERROR 0x83
+
+/* A part of the caller's own message: from start up to, not including, end. */
+typedef struct {
+    size_t start;
+    size_t end;
+} smr_span;
+
+/* A component that is shown. What is not there is 0. */
+typedef struct {
+    uint8_t kind;       /* SMR_NOTHING, SMR_INVOKE .. SMR_REJECT */
+    bool has_id;        /* false only for a Reject without an id, or nothing */
+    int8_t id;          /* -128 to 127 */
+    bool has_linked;    /* an Invoke may have a linked id */
+    int8_t linked;
+    bool has_operation; /* a Return result may have none */
+    uint8_t operation;
+    uint8_t code;       /* of a Return error */
+    uint8_t tag;        /* of a Reject: which kind of problem */
+    uint8_t problem;    /* and its number */
+    smr_span parameter; /* with its tag and length; empty if there is none */
+} smr_component;
+
+/* The text of a USSD parameter: invokes 60 and 61, the result of 59. */
+typedef struct {
+    bool is_there;
+    uint8_t scheme;  /* the coding scheme */
+    smr_span string; /* 1 to 160 octets, coded by the scheme */
+    smr_span tail;   /* unread elements of a later edition, or empty */
+} smr_text;
+
+/* The contents of a cause element in RELEASE COMPLETE, unread. */
+typedef struct {
+    bool is_there;
+    smr_span contents;
+} smr_cause;
+
+typedef struct {
+    uint8_t code;        /* a verdict, 0 to 7, or the refusal 27 or 28 */
+    size_t written;      /* octets of the reply to send; 0: send nothing */
+    smr_component shown;
+    smr_text text;
+    smr_cause cause;
+} smr_received;
+
+typedef struct {
+    uint8_t code;   /* 0, or the refusal, 20 to 28 */
+    uint8_t value;  /* begin: the value of the new transaction */
+    size_t written; /* octets of the message to send; 0 if refused */
+} smr_called;
+
+/* A message came in. The reply buffer needs SMR_REPLY octets. */
+smr_received smr_receive(uint8_t *table, size_t table_length,
+                         const uint8_t *message, size_t message_length,
+                         uint8_t *reply, size_t reply_length);
+
+/* In the calls below a parameter is one element, with its tag and length; 0
+ * octets mean none. A transaction is named by the flag under which its messages
+ * are received (1 if we began it, 0 if the network did) and its value. */
+
+/* Begins a transaction: REGISTER with an Invoke. */
+smr_called smr_begin(uint8_t *table, size_t table_length,
+                     uint8_t operation, int8_t id,
+                     const uint8_t *parameter, size_t parameter_length,
+                     uint8_t *buffer, size_t buffer_length);
+
+/* Another Invoke within an open transaction. */
+smr_called smr_invoke(uint8_t *table, size_t table_length,
+                      uint8_t flag, uint8_t value,
+                      uint8_t operation, int8_t id,
+                      const uint8_t *parameter, size_t parameter_length,
+                      uint8_t *buffer, size_t buffer_length);
+
+/* Answers the peer's invoke with this id by a Return result. */
+smr_called smr_result(uint8_t *table, size_t table_length,
+                      uint8_t flag, uint8_t value, int8_t id,
+                      const uint8_t *parameter, size_t parameter_length,
+                      uint8_t *buffer, size_t buffer_length);
+
+/* Answers the peer's invoke with this id by a Return error. */
+smr_called smr_error(uint8_t *table, size_t table_length,
+                     uint8_t flag, uint8_t value, int8_t id, uint8_t code,
+                     const uint8_t *parameter, size_t parameter_length,
+                     uint8_t *buffer, size_t buffer_length);
+
+/* Ends a transaction: RELEASE COMPLETE. */
+smr_called smr_release(uint8_t *table, size_t table_length,
+                       uint8_t flag, uint8_t value,
+                       uint8_t *buffer, size_t buffer_length);
+
+#ifdef __cplusplus
+}
+#endif
+
+#endif
