@@ -1,5 +1,5 @@
 # The habits of this repository, thin over the toolchain.
-.PHONY: run test check dev format
+.PHONY: run test firmware size check dev format
 
 # The main job: prove every crate, and run each program on its sample.
 run:
@@ -8,6 +8,14 @@ run:
 # The gate, as it runs before a change lands.
 test:
 	.ci/run
+
+# The C programs alone: every case, conversations, noise.
+firmware:
+	firmware/test
+
+# How large the archive is, and how deep each call goes, in octets.
+size:
+	firmware/size
 
 # make check CRATE=elements: prove one crate and those below it.
 check:

@@ -50,7 +50,7 @@ pub fn is_full(waiting: Invoke) -> bool
             id: _,
             operation: _,
         } => {
-            return true;
+            return true; // one is all there is room for
         }
     }
 }

@@ -311,7 +311,7 @@ pub fn cause_view(s: &[u8], cause: Part) -> CauseView
         };
     };
     CauseView {
-        is_there: true,
+        is_there: true, // an 08, maybe empty
         contents: Span {
             start: 2 + start,
             end: 2 + end,

@@ -28,7 +28,7 @@ pub extern "C" fn smr_begin(
         Call::Refused(code) => {
             return Called {
                 code: code,
-                value: 0,
+                value: 0, // none is taken
                 written: 0,
             };
         }

@@ -60,12 +60,12 @@ fn close(table: &mut [u8], k: u8)
     requires { ⌜ size * k + size ≤ length (now table) ⌝ }
     ensures { λ _. ⌜ now (table .exit) ≡ withEntry (now (table .entry)) k closed ⌝ }
 {
-    let slot = Slot {
+    let closed = Slot {
         open: false,
         own: Invoke::Absent,
         peer: Invoke::Absent,
     };
-    table::write_entry(table, k, slot);
+    table::write_entry(table, k, closed);
 }
 
 // The table of verdicts: what is sent, what becomes of the entry, what is shown.

@@ -1,6 +1,6 @@
 use borrow.Author.Needs.{needs}
 use Prim.Native.Nat.{ℕ}
-use mathlib.Core.Path.{_≡_, refl}
+use mathlib.Core.Path.{_≡_, refl, ap, _∙_}
 use mathlib.Core.List.{List}
 use mathlib.Core.Option.{none}
 use native.Mathlib.Omega.{arith}
@@ -66,7 +66,7 @@ returns-2 c =
     let m : List ℕ = layout.release (layout.sentFirst (c .before .before .before .before .before .before .before .before .before .before .before .before .before .before .before .before .args .flag) (c .before .before .before .before .before .before .before .before .before .before .before .before .before .before .before .before .args .value)) in
     let s : Sending = record { entry = g .0 .0; becomes = slotSeen (g .0 .1 .0); message = m } in
     let e : sound s ≡ calls.sendRelease (c .before .before .before .before .before .before .before .before .before .before .before .before .before .before .before .before .args .table .now) (length (c .before .before .before .before .before .before .before .before .before .before .before .before .before .before .before .before .args .buffer .now)) (c .before .before .before .before .before .before .before .before .before .before .before .before .before .before .before .before .args .flag) (c .before .before .before .before .before .before .before .before .before .before .before .before .before .before .before .before .args .value) = ((rw (g .1) at (c .before .before .before .before .before .before .before .before .before .before .before .before .decide-release .ensures .0))) in
-    let f : c .before .before .before .before .before .before .write-release .last .0 ≡ splice (c .before .before .before .before .before .before .before .before .before .before .before .before .before .before .before .before .args .buffer .now) 0 m = rw (c .before .before .before .before .before .before .before .before .sent-first .ensures) at (c .before .before .before .before .before .before .write-release .ensures .0) in
+    let f : c .before .before .before .before .before .before .write-release .last .0 ≡ splice (c .before .before .before .before .before .before .before .before .before .before .before .before .before .before .before .before .args .buffer .now) 0 m = c .before .before .before .before .before .before .write-release .ensures .0 ∙ ap (λ (first : ℕ). splice (c .before .before .before .before .before .before .before .before .before .before .before .before .before .before .before .before .args .buffer .now) 0 (layout.release first)) (c .before .before .before .before .before .before .before .before .sent-first .ensures) in
     let l : c .before .before .before .before .before .before .write-release .result ≡ length m = c .before .before .before .before .before .before .write-release .ensures .1 in
     sent-as (c .before .before .before .before .before .before .before .before .before .before .before .before .before .before .before .before .args .table .now) (c .before .before .before .before .before .before .before .before .before .before .before .before .before .before .before .before .args .buffer .now) noValue (calls.sendRelease (c .before .before .before .before .before .before .before .before .before .before .before .before .before .before .before .before .args .table .now) (length (c .before .before .before .before .before .before .before .before .before .before .before .before .before .before .before .before .args .buffer .now)) (c .before .before .before .before .before .before .before .before .before .before .before .before .before .before .before .before .args .flag) (c .before .before .before .before .before .before .before .before .before .before .before .before .before .before .before .before .args .value)) s 0 _ _ _ e refl l f (c .before .before .write-entry .ensures)
 

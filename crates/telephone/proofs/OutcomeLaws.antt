@@ -1,0 +1,65 @@
+-- What every outcome keeps: the octets that are sent stand at the front of the buffer, what stands behind stays, and no
+-- entry but one changes.
+use Prim.Native.Nat.{ℕ, _+_, _*_, _≤_}
+use mathlib.Core.Path.{_≡_, refl, sym, ap, _∙_}
+use mathlib.Core.List.{List, [], _++_}
+use mathlib.Core.Option.{none}
+use native.Mathlib.Omega.{arith}
+use lib.ListN.{length, take, drop}
+use lib.Seq.{take-append-seam, drop-append-seam}
+use Rattle.octets.specs.Reader.{Answer, fault, sound}
+use Rattle.octets.specs.Splice.{splice}
+use Rattle.octets.proofs.SpliceLaws.{splice-front}
+use Rattle.table.specs.Table.{size, entryAt, withEntry}
+use Rattle.table.proofs.TableLaws.{others-stay}
+use Rattle.deciding.specs.Decision.{Decision, silent, withCause, withReject, onReject, released, taken}
+use Rattle.deciding.specs.Steps.{entryOf}
+use Rattle.calling.specs.Calls.{Sending}
+use Rattle.telephone.specs.Outcome.{Outcome, untouched}
+use Rattle.telephone.specs.Receive.{sentBy, tableBy, act}
+use Rattle.telephone.specs.Calls.{called}
+use Rattle.telephone.proofs.Paths.{splice-none}
+
+-- a message written at the front: it stands there, and what stood behind it stays
+pub front-is : (b x : List ℕ) → take (length x) (splice b 0 x) ≡ x
+front-is b x = rw (splice-front b x) (take-append-seam x (drop (length x) b))
+
+pub behind-stays : (b x : List ℕ) → drop (length x) (splice b 0 x) ≡ drop (length x) b
+behind-stays b x = rw (splice-front b x) (drop-append-seam x (drop (length x) b))
+
+module _ (t m b : List ℕ) where
+  -- verdicts 1, 6 and 7, and the refusals 28 and 27
+  pub silent-untouched : (code : ℕ) → act t m b (silent code) ≡ untouched t b code
+  unfolding act
+  silent-untouched code = ap (λ (x : List ℕ). record { code = code; written = 0; value = 0; shown = none; cause = none; buffer = x; table = t }) (sym (splice-none b))
+
+  pub reply-is : (d : Decision) → take (act t m b d .written) (act t m b d .buffer) ≡ sentBy m d
+  unfolding act
+  reply-is d = front-is b (sentBy m d)
+
+  pub reply-behind : (d : Decision) → drop (act t m b d .written) (act t m b d .buffer) ≡ drop (act t m b d .written) b
+  unfolding act
+  reply-behind d = behind-stays b (sentBy m d)
+
+  -- no entry changes but the message's own
+  pub others-kept : (d : Decision) (j : ℕ) → size * entryOf m + size ≤ length t → (j ≡ entryOf m → ⊥) → entryAt (act t m b d .table) j ≡ entryAt t j
+  unfolding act
+  others-kept (silent code) j h n = refl
+  others-kept (withCause number) j h n = others-stay t j (entryOf m) _ h n
+  others-kept (withReject id tag number) j h n = others-stay t j (entryOf m) _ h n
+  others-kept (onReject shown) j h n = others-stay t j (entryOf m) _ h n
+  others-kept (released shown cause) j h n = others-stay t j (entryOf m) _ h n
+  others-kept (taken entry shown) j h n = others-stay t j (entryOf m) _ h n
+
+module _ (t b : List ℕ) (value : Sending → ℕ) where
+  pub call-refused : (n : ℕ) → called t b value (fault n) ≡ untouched t b n
+  call-refused n = refl
+
+  pub message-is : (s : Sending) → take (called t b value (sound s) .written) (called t b value (sound s) .buffer) ≡ s .message
+  message-is s = front-is b (s .message)
+
+  pub message-behind : (s : Sending) → drop (called t b value (sound s) .written) (called t b value (sound s) .buffer) ≡ drop (length (s .message)) b
+  message-behind s = behind-stays b (s .message)
+
+  pub call-others : (s : Sending) (j : ℕ) → size * s .entry + size ≤ length t → (j ≡ s .entry → ⊥) → entryAt (called t b value (sound s) .table) j ≡ entryAt t j
+  call-others s j h n = others-stay t j (s .entry) (s .becomes) h n

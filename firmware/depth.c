@@ -1,0 +1,90 @@
+/* How deep each call goes: it runs on a painted stack, and the paint that is gone
+ * is counted. Prints a line for each, in octets. */
+#define _GNU_SOURCE
+#include "smrcholet.h"
+
+#include <stdio.h>
+#include <string.h>
+#include <ucontext.h>
+
+enum { STACK = 65536, PAINT = 0xA5 };
+
+static uint8_t stack[STACK] __attribute__((aligned(16)));
+static ucontext_t here, there;
+static uint8_t table[SMR_TABLE], buffer[SMR_MESSAGE];
+static const uint8_t *given;
+static size_t given_length;
+
+/* 160 octets of text, as one parameter; in an Invoke of 60 in a REGISTER. */
+static uint8_t text[169], menu[182];
+static const uint8_t guidance[] = {0x0A, 0x01, 0x00};
+static const uint8_t answered[] = {0x8B, 0x3A, 0x05, 0xA2, 0x03, 0x02, 0x01, 0x01};
+static const uint8_t ended[] = {0x8B, 0x2A, 0x08, 0x02, 0xE0, 0x9D, 0x1C, 0x05,
+                                0xA2, 0x03, 0x02, 0x01, 0x01};
+static const uint8_t rejected[] = {0x8B, 0x3A, 0x02, 0xA5, 0x00};
+
+static void nothing(void) {}
+static void receive(void) { smr_receive(table, SMR_TABLE, given, given_length, buffer, SMR_REPLY); }
+static void begin(void) { smr_begin(table, SMR_TABLE, 59, 1, text, sizeof text, buffer, sizeof buffer); }
+static void invoke(void) { smr_invoke(table, SMR_TABLE, 0, 0, 59, 1, text, sizeof text, buffer, sizeof buffer); }
+static void result(void) { smr_result(table, SMR_TABLE, 0, 0, 5, text, sizeof text, buffer, sizeof buffer); }
+static void error(void) { smr_error(table, SMR_TABLE, 0, 0, 5, 1, guidance, sizeof guidance, buffer, sizeof buffer); }
+static void release(void) { smr_release(table, SMR_TABLE, 0, 0, buffer, sizeof buffer); }
+
+/* The octets that a call takes of a fresh stack. */
+static size_t depth(void (*call)(void), const char *image)
+{
+    size_t clean = 0;
+    memset(table, 0, sizeof table);
+    for (int k = 0; image[2 * k] != 0; k++) {
+        unsigned octet;
+        sscanf(image + 2 * k, "%2x", &octet);
+        table[k < 5 ? k : 30 + k] = (uint8_t)octet;
+    }
+    memset(stack, PAINT, STACK);
+    getcontext(&there);
+    there.uc_stack.ss_sp = stack;
+    there.uc_stack.ss_size = STACK;
+    there.uc_link = &here;
+    makecontext(&there, call, 0);
+    swapcontext(&here, &there);
+    while (clean < STACK && stack[clean] == PAINT) clean++;
+    return STACK - clean;
+}
+
+static void print(const char *name, size_t octets)
+{
+    printf("stack of %-16s %5zu\n", name, octets);
+}
+
+int main(void)
+{
+    /* our entry 0 with invoke 1 of 59, then the network's with invoke 5 of 60 */
+    const char *open = "03013B0000050000053C", *fresh = "", *peer = "0000000000050000053C";
+    size_t none, deepest = 0;
+    struct {
+        const uint8_t *octets;
+        size_t length;
+    } messages[] = {{menu, sizeof menu}, {answered, sizeof answered}, {ended, sizeof ended},
+                    {rejected, sizeof rejected}};
+
+    memset(text, 0x41, sizeof text);
+    memcpy(text, (uint8_t[]){0x30, 0x81, 0xA6, 0x04, 0x01, 0x0F, 0x04, 0x81, 0xA0}, 9);
+    memcpy(menu, (uint8_t[]){0x0B, 0x3B, 0x1C, 0xB2, 0xA1, 0x81, 0xAF, 0x02, 0x01, 0x05, 0x02, 0x01, 0x3C}, 13);
+    memcpy(menu + 13, text, sizeof text);
+
+    none = depth(nothing, fresh);
+    for (size_t i = 0; i < sizeof messages / sizeof *messages; i++) {
+        given = messages[i].octets;
+        given_length = messages[i].length;
+        size_t n = depth(receive, i == 0 ? fresh : open) - none;
+        deepest = n > deepest ? n : deepest;
+    }
+    print("smr_receive", deepest);
+    print("smr_begin", depth(begin, fresh) - none);
+    print("smr_invoke", depth(invoke, peer) - none);
+    print("smr_result", depth(result, peer) - none);
+    print("smr_error", depth(error, peer) - none);
+    print("smr_release", depth(release, peer) - none);
+    return 0;
+}
