@@ -133,7 +133,7 @@ pub fn judge_invoke(slot: Slot, id: i8, linked: Id, operation: u8, p: &[u8]) -> 
     if is_among(id, peer) {
         return Verdict::Problem {
             tag: 0x81,
-            number: 0,
+            number: 0, // a duplicate
         };
     }
     if is_full(peer) {

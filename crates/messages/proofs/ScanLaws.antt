@@ -13,7 +13,7 @@ use borrow.Author.Tests.{lt-leb, leb-true, ne-eqb, eqb-true, eqb-false}
 use Rattle.octets.specs.Reader.{Answer, fault, sound, Taken, took, seq, done, need, octet, front, isEmpty}
 use Rattle.octets.proofs.ReaderLaws.{sound-inj, not-sound, through, passed, Local, IsLocal, done-local, seq-local, need-local, cond-local, octet-local, front-local, front-back, stays, either}
 use Rattle.messages.specs.Layout.{mandatoryMissing, registerType, facilityType, sized, mandatory}
-use Rattle.messages.specs.Scan.{Information, absent, cut, information, onward, clearOf, clear, required, wanted, firstOf, firstTaken, contentsOf, firstWhole}
+use Rattle.messages.specs.Scan.{Information, absent, cut, information, onward, clearOf, clear, required, wanted, firstOf, firstTaken, contentsOf, firstWhole, Passed, nothing, another}
 
 pub information-local : IsLocal information
 unfolding information
@@ -210,11 +210,6 @@ required-later t s v r w e =
     through (mandatory t s) _ _ e λ g p q.
     passed (clear (g .rest)) mandatoryMissing (sound g) _ q λ k h.
     rw (mandatory-back t w r, ← ap (λ (y : Taken (List ℕ)). y .rest) (sound-inj h), k)
-
--- whole information elements in a row, none with the identifier w
-pub data Passed (w : ℕ) : List ℕ → Type 0 where
-  nothing : Passed w []
-  another : {s : List ℕ} (g : Taken Information) → information s ≡ sound g → (g .value .identifier ≡ w → ⊥) → Passed w (g .rest) → Passed w s
 
 -- the first with that identifier lies behind them
 pub first-behind : {w : ℕ} {before : List ℕ} (behind : List ℕ) → Passed w before → firstWhole w (before ++ behind) ≡ firstWhole w behind

@@ -1,6 +1,8 @@
 use borrow.Author.Needs.{needs}
 use borrow.Author.Tests.{eq-eqb, ne-eqb}
-use Rattle.judging.specs.StepSix.{operationOf}
+use mathlib.Core.Path.{_≡_}
+use mathlib.Core.Bool.{true, false}
+use Rattle.judging.specs.StepSix.{sameId, operationOf}
 use Rattle.judging.proofs.waiting_operation.Statement.{statement}
 use Rattle.judging.proofs.waiting_operation.Tie as tie
 use Rattle.judging.proofs.waiting_operation.Reads as reads
@@ -18,11 +20,15 @@ enum-known-waiting c = search needs
 
 returns-2 : tie.Need-returns-2
 unfolding operationOf
-returns-2 c = rw (c .before .before .waiting .given .1, eq-eqb _ _ (c .if1 .taken))
+returns-2 c =
+    let e : sameId (c .before .before .waiting .given .0 .0) (c .before .before .before .before .args .id) ≡ true = eq-eqb _ _ (c .if1 .taken) in
+    rw (c .before .before .waiting .given .1, e)
 
 returns-3 : tie.Need-returns-3
 unfolding operationOf
-returns-3 c = rw (c .before .before .waiting .given .1, ne-eqb _ _ (c .if1 .left))
+returns-3 c =
+    let e : sameId (c .before .before .waiting .given .0 .0) (c .before .before .before .before .args .id) ≡ false = ne-eqb _ _ (c .if1 .left) in
+    rw (c .before .before .waiting .given .1, e)
 
 pub waiting-operation-spec : {M : Type 1} → statement M
 waiting-operation-spec =
