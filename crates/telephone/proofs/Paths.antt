@@ -85,7 +85,7 @@ named-value none v e = cc
 named-value (some k) v e = ap some (sound-inj e)
 
 -- what fits is sent as it is
-fitting-is : (room : ℕ) (x s : Sending) → fitting room x ≡ sound s → x ≡ s
+pub fitting-is : (room : ℕ) (x s : Sending) → fitting room x ≡ sound s → x ≡ s
 unfolding fitting
 fitting-is room x s e = passed (leb (length (x .message)) 255) 26 _ s e λ a f. passed (leb (length (x .message)) room) 27 _ s f λ b g. sound-inj g
 

@@ -1,0 +1,6 @@
+mod Silence
+mod RejectBack
+pub mod OneVerdict
+pub mod ReadBack
+pub mod Unrecognized
+pub mod Worked

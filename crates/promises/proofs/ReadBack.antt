@@ -1,0 +1,160 @@
+-- Demand 2 holds: what is written reads back.
+use Prim.Native.Nat.{ℕ}
+use mathlib.Core.Path.{_≡_, refl, sym, ap, subst, _∙_}
+use mathlib.Core.List.{List, [], _∷_}
+use mathlib.Core.Bool.{Bool, true, false, cond, not, _&&_, _||_, false≢true}
+use mathlib.Core.Option.{Option, none, some}
+use lib.IntN.{ℤ}
+use lib.ListN.{length, drop}
+use lib.Dec.{leb, eqb}
+use mir.Syntax.{w8}
+use mir.Val.{SFits}
+use Rattle.octets.specs.Reader.{Answer, fault, sound, Taken, took, andThen, check, isEmpty, alone}
+use Rattle.octets.proofs.ReaderLaws.{sound-inj, not-sound, through, passed}
+use Rattle.elements.specs.Element.{Element, element}
+use Rattle.codes.specs.Operations.{begins}
+use Rattle.codes.specs.Errors.{listed}
+use Rattle.parameters.specs.Parameter.{mistyped, isSound, one, holding, inside, ussd, isPassword, isServiceCode, ussdContents, password, serviceCode, ssForBs}
+use Rattle.parameters.specs.Suits.{anyOne, isUssd, noneOrOne, noneOrUssd, suitsInvokeWritten, suitsResultWritten, suits}
+use Rattle.parameters.specs.declared.suits.Place.the-variants.{InvokeWritten, ResultWritten}
+use Rattle.places.specs.Places.{misplaced, parameter}
+use Rattle.components.specs.Component.{Component, invoke, error, reject}
+use Rattle.components.specs.Facility.{shows, facility}
+use Rattle.components.specs.Written.{octets, answer, IsParameter, Writable}
+use Rattle.components.proofs.ReadBack.{read-back, answer-writable}
+use Rattle.messages.specs.Layout.{registerType, facilityType, sentFirst, register, facilityMessage, releaseFacility}
+use Rattle.sending.proofs.SentBack.{register-found, facility-found, release-found}
+use Rattle.table.specs.Table.{entryAt, valid, lowestClosed}
+use Rattle.judging.specs.StepSix.{among, full, operationOf}
+use Rattle.calling.specs.Calls.{Sending, orRefused, transaction, begin, invokeWithin, sendResult, sendError}
+use Rattle.telephone.proofs.Paths.{fitting-is}
+use Rattle.promises.specs.ReadBack.{ComponentReadsBack, Carries, CallReadsBack, Demand2}
+use Rattle.promises.proofs.RejectBack.{reject-reads-back}
+
+-- one element, and nothing behind it, is a parameter
+one-parameter : (p : List ℕ) → isSound (one p) ≡ true → IsParameter p
+unfolding parameter
+one-parameter [] h = refl
+one-parameter (a ∷ p) h = go (element (a ∷ p)) h
+  where
+    ended : (b : Bool) (e : Element) → isSound (check b mistyped (sound e)) ≡ true → andThen (check b misplaced (sound e)) (λ x. sound (a ∷ p)) ≡ sound (a ∷ p)
+    ended true e h = refl
+    ended false e h = absurd (false≢true h)
+
+    go : (o : Answer (Taken Element)) → isSound (alone mistyped o) ≡ true → andThen (alone misplaced o) (λ x. sound (a ∷ p)) ≡ sound (a ∷ p)
+    go (fault n) h = absurd (false≢true h)
+    go (sound g) h = ended (isEmpty (g .rest)) (g .value) h
+
+-- contents held under a tag are those of one element
+held-one : (tag : ℕ) (p : List ℕ) (test : List ℕ → Bool) → inside (holding tag p) test ≡ true → isSound (one p) ≡ true
+held-one tag p test h = go (one p) h
+  where
+    go : (o : Answer Element) → inside (andThen o (λ e. check (eqb (e .tag) tag) mistyped (sound (e .contents)))) test ≡ true → isSound o ≡ true
+    go (fault n) h = absurd (false≢true h)
+    go (sound e) h = refl
+
+ussd-one : (p : List ℕ) → isUssd p ≡ true → isSound (one p) ≡ true
+unfolding ussd
+ussd-one p h = go (one p) h
+  where
+    go : (o : Answer Element) → isSound (andThen (andThen o (λ e. check (eqb (e .tag) 0x30) mistyped (sound (e .contents)))) ussdContents) ≡ true → isSound o ≡ true
+    go (fault n) h = absurd (false≢true h)
+    go (sound e) h = refl
+
+and-second : (a b : Bool) → a && b ≡ true → b ≡ true
+and-second true b h = h
+and-second false b h = absurd (false≢true h)
+
+-- the parameter of each operation that we begin
+invoke-parameter : (o : ℕ) (p : List ℕ) → suits InvokeWritten o p ≡ true → IsParameter p
+unfolding suits suitsInvokeWritten
+invoke-parameter o p h = one-parameter p (go (eqb o 10) (leb 11 o && leb o 14) (eqb o 17) h)
+  where
+    go : (a b c : Bool) → cond a (anyOne p) (cond b (ssForBs p) (cond c (serviceCode p) (eqb o 59 && isUssd p))) ≡ true → isSound (one p) ≡ true
+    go true b c h = h
+    go false true c h = held-one 0x30 p _ h
+    go false false true h = held-one 0x04 p isServiceCode h
+    go false false false h = ussd-one p (and-second (eqb o 59) (isUssd p) h)
+
+none-or : (p : List ℕ) (x : Bool) → (x ≡ true → isSound (one p) ≡ true) → isEmpty p || x ≡ true → IsParameter p
+unfolding parameter
+none-or [] x k h = refl
+none-or (a ∷ p) x k h = one-parameter (a ∷ p) (k h)
+
+no-parameter : (p : List ℕ) → isEmpty p ≡ true → IsParameter p
+unfolding parameter
+no-parameter [] h = refl
+no-parameter (a ∷ p) h = absurd (false≢true h)
+
+-- and of each result that we write
+result-parameter : (o : ℕ) (p : List ℕ) → suits ResultWritten o p ≡ true → IsParameter p
+unfolding suits suitsResultWritten
+result-parameter o p h = go (eqb o 18) (eqb o 60) h
+  where
+    go : (a b : Bool) → cond a (password p) (cond b (noneOrUssd p) (eqb o 61 && isEmpty p)) ≡ true → IsParameter p
+    go true b h = one-parameter p (held-one 0x12 p isPassword h)
+    go false true h = none-or p (isUssd p) (ussd-one p) h
+    go false false h = no-parameter p (and-second (eqb o 61) (isEmpty p) h)
+
+module _ (t p : List ℕ) (room : ℕ) (id : ℤ) (i : SFits w8 id) (s : Sending) where
+  in-register : (first : ℕ) (c : Component) → Writable c → s .message ≡ register first (octets c) → Carries registerType (s .message) c
+  in-register first c w e = record { behind = 0x7F ∷ 0x01 ∷ 0x00 ∷ []; found = rw e (register-found first (octets c)); back = read-back c w }
+
+  in-facility : (first : ℕ) (c : Component) → Writable c → s .message ≡ facilityMessage first (octets c) → Carries facilityType (s .message) c
+  in-facility first c w e = record { behind = []; found = rw e (facility-found first (octets c)); back = read-back c w }
+
+  begin-carries : (o : ℕ) → begin t room o id p ≡ sound s → Carries registerType (s .message) (invoke id none o p)
+  unfolding begin
+  begin-carries o e =
+      passed (valid t) 28 _ s e λ e₁ f₁.
+      passed (begins o) 20 _ s f₁ λ e₂ f₂.
+      through (orRefused 21 (lowestClosed t)) _ s f₂ λ v e₃ f₃.
+      passed (suits InvokeWritten o p) 25 _ s f₃ λ e₄ f₄.
+      in-register (sentFirst 1 v) (invoke id none o p) (i, (tt, invoke-parameter o p e₄)) (sym (ap (λ (z : Sending). z .message) (fitting-is room _ s f₄)))
+
+  module _ (flag value : ℕ) where
+    invoke-carries : (o : ℕ) → invokeWithin t room flag value o id p ≡ sound s → Carries facilityType (s .message) (invoke id none o p)
+    unfolding invokeWithin
+    invoke-carries o e =
+        passed (valid t) 28 _ s e λ e₁ f₁.
+        passed (begins o) 20 _ s f₁ λ e₂ f₂.
+        through (transaction t flag value) _ s f₂ λ k e₃ f₃.
+        passed (not (full (entryAt t k .own))) 23 _ s f₃ λ e₄ f₄.
+        passed (suits InvokeWritten o p) 25 _ s f₄ λ e₅ f₅.
+        in-facility (sentFirst flag value) (invoke id none o p) (i, (tt, invoke-parameter o p e₅)) (sym (ap (λ (z : Sending). z .message) (fitting-is room _ s f₅)))
+
+    result-carries : sendResult t room flag value id p ≡ sound s → Carries facilityType (s .message) (answer id (operationOf id (entryAt t (s .entry) .peer)) p)
+    unfolding sendResult
+    result-carries e =
+        passed (valid t) 28 _ s e λ e₁ f₁.
+        through (transaction t flag value) _ s f₁ λ k e₂ f₂.
+        passed (among id (entryAt t k .peer)) 24 _ s f₂ λ e₃ f₃.
+        passed (suits ResultWritten (operationOf id (entryAt t k .peer)) p) 25 _ s f₃ λ e₄ f₄.
+        let z = fitting-is room _ s f₄ in
+        let k-is : k ≡ s .entry = ap (λ (x : Sending). x .entry) z in
+        let o : ℕ = operationOf id (entryAt t k .peer) in
+        let m : s .message ≡ facilityMessage (sentFirst flag value) (octets (answer id o p)) = sym (ap (λ (x : Sending). x .message) z) in
+        let y : Carries facilityType (s .message) (answer id o p) = in-facility (sentFirst flag value) (answer id o p) (answer-writable id o p i (result-parameter o p e₄)) m in
+        subst (λ (j : ℕ). Carries facilityType (s .message) (answer id (operationOf id (entryAt t j .peer)) p)) k-is y
+
+    error-carries : (code : ℕ) → sendError t room flag value id code p ≡ sound s → Carries facilityType (s .message) (error id code p)
+    unfolding sendError
+    error-carries code e =
+        passed (valid t) 28 _ s e λ e₁ f₁.
+        passed (listed code) 20 _ s f₁ λ e₂ f₂.
+        through (transaction t flag value) _ s f₂ λ k e₃ f₃.
+        passed (among id (entryAt t k .peer)) 24 _ s f₃ λ e₄ f₄.
+        passed (noneOrOne p) 25 _ s f₄ λ e₅ f₅.
+        in-facility (sentFirst flag value) (error id code p) (i, none-or p (anyOne p) (λ h. h) e₅) (sym (ap (λ (z : Sending). z .message) (fitting-is room _ s f₅)))
+
+component-reads-back : ComponentReadsBack
+component-reads-back c w = read-back c w
+
+call-reads-back : CallReadsBack
+call-reads-back t p room flag value operation code id i s = (
+  begin-carries t p room id i s operation,
+  (invoke-carries t p room id i s flag value operation, (result-carries t p room id i s flag value, error-carries t p room id i s flag value code)),
+)
+
+pub demand-2 : Demand2
+demand-2 = (component-reads-back, (call-reads-back, reject-reads-back))

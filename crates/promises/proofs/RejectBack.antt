@@ -1,0 +1,257 @@
+-- Every Reject that a verdict sends can be written: its id is one octet's, its problem has one of the four tags.
+use Prim.Native.Nat.{ℕ, _<_}
+use mathlib.Core.Path.{_≡_, refl, sym, ap, subst, _∙_}
+use mathlib.Core.List.{List, [], _∷_, _++_}
+use mathlib.Core.Bool.{Bool, true, false, cond, not, _&&_}
+use mathlib.Core.Option.{Option, none, some}
+use native.Mathlib.Omega.{arith}
+use lib.IntN.{ℤ}
+use lib.ListN.{length, getD, drop}
+use lib.Dec.{ltb, leb, eqb}
+use mir.Syntax.{w8}
+use mir.Val.{SFits}
+use mir.Facts.{sfits-toZ}
+use Rattle.octets.specs.Octets.{Octets}
+use Rattle.octets.specs.Reader.{Answer, fault, sound, Taken, took, andThen, check, octet, front, isEmpty, alone}
+use Rattle.octets.proofs.OctetsLaws.{octets-take, octets-drop}
+use Rattle.octets.proofs.ReaderLaws.{sound-inj, not-sound, through, passed, rest-octets, octet-local}
+use Rattle.elements.specs.Element.{Element, missing, unreadable, refusedTag, lengthOf, element}
+use Rattle.elements.proofs.ElementLaws.{length-local, element-local}
+use Rattle.codes.specs.Ids.{idOf}
+use Rattle.codes.specs.Problems.{problemTag}
+use Rattle.places.specs.Places.{misplaced, single}
+use Rattle.components.specs.Component.{Component, invoke, result, error, reject, rejectTag, invokeTag, resultTag, invokeOf, resultOf, errorOf, rejectOf}
+use Rattle.components.specs.Facility.{Finding, empty, shows, general, leftOver, faultyReject, idRead, faulty, found, afterTag, component, inside, outer, facility}
+use Rattle.components.specs.Written.{IsSomeId, octets, Writable}
+use Rattle.components.proofs.ReadBack.{read-back}
+use Rattle.codes.specs.Operations.{serves}
+use Rattle.codes.specs.Errors.{listed}
+use Rattle.codes.specs.Problems.{invoke as invokeProblem}
+use Rattle.parameters.specs.Suits.{suits}
+use Rattle.parameters.specs.declared.suits.Place.the-variants.{InvokeReceived, ResultReceived}
+use Rattle.messages.specs.Layout.{discriminator, value, flag, facilityType, registerType, mandatoryMissing, mandatory}
+use Rattle.messages.specs.Types.{typeOf}
+use Rattle.messages.specs.Scan.{clear, required}
+use Rattle.messages.specs.declared.layout.MessageType.{MessageType}
+use Rattle.messages.specs.declared.layout.MessageType.the-variants.{ReleaseComplete, Facility, Register, Unknown}
+use Rattle.messages.proofs.ScanLaws.{mandatory-is}
+use Rattle.sending.proofs.SentBack.{release-found}
+use Rattle.table.specs.Table.{Entry, entryAt, valid}
+use Rattle.judging.specs.StepSix.{Judged, problem, accepted, among, full, operationOf, linkedProblem, orProblem, withPeer, isOurs, judgeInvoke, judgeResult, judgeError}
+use Rattle.deciding.specs.Decision.{Decision, silent, withCause, withReject, onReject, released, taken}
+use Rattle.deciding.specs.Steps.{firstOf, entryOf, onJudged, stepSix, stepFive, onRequired, stepFour, onRelease, byType, stepTwo, decide}
+use Rattle.promises.specs.ReadBack.{RejectReadsBack}
+use Rattle.places.specs.Places.{called, coded, rejected, parameter}
+
+-- the first octet of octets
+first-octet : (s : List ℕ) → Octets s → getD s 0 0 < 256
+first-octet [] h = omega arith
+first-octet (a ∷ s) h = h .0
+
+contents-octets : (s : List ℕ) (g : Taken Element) → element s ≡ sound g → Octets s → Octets (g .value .contents)
+unfolding element
+contents-octets s g e h =
+    through (octet missing s) _ g e λ a p q.
+    passed (not (refusedTag (a .value))) unreadable _ g q λ u v.
+    through (lengthOf (a .rest)) _ g v λ n w x.
+    through (front unreadable (n .value) (n .rest)) _ g x λ c y z.
+    passed (leb (n .value) (length (n .rest))) unreadable _ c y λ k l.
+    let o = rest-octets lengthOf length-local (a .rest) n w (rest-octets (octet missing) (octet-local missing) s a p h) in
+    let d : c .value ≡ g .value .contents = ap (λ (y : Taken Element). y .value .contents) (sound-inj z) in
+    let r = ap (λ (y : Taken (List ℕ)). y .value) (sound-inj l) in
+    subst Octets (r ∙ d) (octets-take (n .value) (n .rest) o)
+
+-- an id that was read is one octet's
+single-id : (s : List ℕ) (i : Taken ℕ) → single 0x02 s ≡ sound i → Octets s → SFits w8 (idOf (i .value))
+unfolding single
+single-id s i e h =
+    through (element s) _ i e λ g p q.
+    passed (eqb (g .value .tag) 0x02) misplaced _ i q λ u v.
+    passed (eqb (length (g .value .contents)) 1) misplaced _ i v λ w x.
+    let d : getD (g .value .contents) 0 0 ≡ i .value = ap (λ (y : Taken ℕ). y .value) (sound-inj x) in
+    let f : i .value < 256 = rw (← d) (first-octet (g .value .contents) (contents-octets s g p h)) in
+    sfits-toZ (record { fits = f })
+
+id-read : (o : Answer (Taken ℕ)) → ((i : Taken ℕ) → o ≡ sound i → SFits w8 (idOf (i .value))) → IsSomeId (idRead o)
+id-read (fault n) h = tt
+id-read (sound i) h = h i refl
+
+-- a component that is shown has such an id
+abbrev HasId : Component → Type 0
+HasId (invoke id linked operation p) = SFits w8 id
+HasId (result id operation p) = SFits w8 id
+HasId (error id code p) = SFits w8 id
+HasId (reject id tag number) = Unit {0}
+
+abbrev AnswerHasId : Answer Component → Type 0
+AnswerHasId (fault n) = Unit {0}
+AnswerHasId (sound c) = HasId c
+
+abbrev FindingHasId : Finding → Type 0
+FindingHasId empty = Unit {0}
+FindingHasId (shows c) = HasId c
+FindingHasId (general n id) = IsSomeId id
+FindingHasId leftOver = Unit {0}
+FindingHasId faultyReject = Unit {0}
+
+then-id : {A : Type 0} (o : Answer A) (k : A → Answer Component) → ((a : A) → AnswerHasId (k a)) → AnswerHasId (andThen o k)
+then-id (fault n) k h = tt
+then-id (sound a) k h = h a
+
+check-id : (b : Bool) (n : ℕ) (o : Answer Component) → AnswerHasId o → AnswerHasId (check b n o)
+check-id true n o h = h
+check-id false n o h = tt
+
+cond-id : (b : Bool) (x y : Answer Component) → AnswerHasId x → AnswerHasId y → AnswerHasId (cond b x y)
+cond-id true x y h k = h
+cond-id false x y h k = k
+
+after-id : (tag : ℕ) (id : ℤ) (s : List ℕ) → SFits w8 id → AnswerHasId (afterTag tag id s)
+unfolding afterTag invokeOf resultOf errorOf
+after-id tag id s h =
+    cond-id (eqb tag invokeTag) _ _ (then-id (called s) _ λ c. then-id (parameter (c .rest)) _ λ p. h)
+    (cond-id (eqb tag resultTag) _ _
+    (cond-id (isEmpty s) _ _ h (then-id (element s) _ λ e. check-id (eqb (e .value .tag) 0x30) misplaced _ (then-id (coded (e .value .contents)) _ λ c. check-id (isEmpty (e .rest)) misplaced _ h)))
+    (then-id (coded s) _ λ c. h))
+
+reject-id : (s : List ℕ) → AnswerHasId (rejectOf s)
+unfolding rejectOf
+reject-id s = then-id (rejected s) _ λ i. then-id (alone misplaced (element (i .rest))) _ λ e. check-id (problemTag (e .tag)) misplaced _ (check-id (eqb (length (e .contents)) 1) misplaced _ tt)
+
+component-id : (tag : ℕ) (s : List ℕ) → Octets s → AnswerHasId (component tag s)
+unfolding component
+component-id tag s h = cond-id (eqb tag rejectTag) _ _ (reject-id s) (go (single 0x02 s) refl)
+  where
+    go : (o : Answer (Taken ℕ)) → single 0x02 s ≡ o → AnswerHasId (andThen o (λ i. afterTag tag (idOf (i .value)) (i .rest)))
+    go (fault n) e = tt
+    go (sound i) e = after-id tag (idOf (i .value)) (i .rest) (single-id s i e h)
+
+-- what a Facility value says
+finding-id : (b : Bool) (x y : Finding) → FindingHasId x → FindingHasId y → FindingHasId (cond b x y)
+finding-id true x y h k = h
+finding-id false x y h k = k
+
+inside-id : (tag : ℕ) (s : List ℕ) → Octets s → FindingHasId (inside tag s)
+unfolding inside
+inside-id tag s h = go (component tag s) (component-id tag s h)
+  where
+    go : (o : Answer Component) → AnswerHasId o → FindingHasId (found tag s o)
+    go (fault n) k = finding-id (eqb tag rejectTag) _ _ tt (id-read (single 0x02 s) (λ i e. single-id s i e h))
+    go (sound c) k = k
+
+facility-has-id : (s : List ℕ) → Octets s → FindingHasId (facility s)
+unfolding facility
+facility-has-id s h =
+    finding-id (isEmpty s) _ _ tt
+    (finding-id (leb invokeTag (getD s 0 0) && leb (getD s 0 0) rejectTag) _ _ (go (element s) refl) tt)
+  where
+    go : (o : Answer (Taken Element)) → element s ≡ o → FindingHasId (outer (getD s 0 0) o)
+    go (fault n) e = finding-id (eqb (getD s 0 0) rejectTag) _ _ tt tt
+    go (sound g) e = finding-id (isEmpty (g .rest)) _ _ (inside-id (getD s 0 0) (g .value .contents) (contents-octets s g e h)) tt
+
+-- step 6 tells its problems under the four tags
+abbrev Tagged : Judged → Type 0
+Tagged (problem tag number) = problemTag tag ≡ true
+Tagged (accepted e) = Unit {0}
+
+tagged : (b : Bool) (x y : Judged) → Tagged x → Tagged y → Tagged (cond b x y)
+tagged true x y h k = h
+tagged false x y h k = k
+
+invoke-tagged : (e : Entry) (id : ℤ) (linked : Option ℤ) (o : ℕ) (p : List ℕ) → Tagged (judgeInvoke e id linked o p)
+unfolding judgeInvoke
+invoke-tagged e id linked o p =
+    tagged (among id (e .peer)) _ _ refl
+    (tagged (full (e .peer)) _ _ refl
+    (tagged (serves o) _ _ (go (linkedProblem (e .own) linked o)) refl))
+  where
+    go : (x : Option ℕ) → Tagged (orProblem x (cond (suits InvokeReceived o p) (accepted (withPeer e id o)) (problem invokeProblem 2)))
+    go none = tagged (suits InvokeReceived o p) _ _ tt refl
+    go (some n) = refl
+
+result-tagged : (e : Entry) (id : ℤ) (o : Option ℕ) (p : List ℕ) → Tagged (judgeResult e id o p)
+unfolding judgeResult
+result-tagged e id o p = tagged (among id (e .own)) _ _ (tagged (isOurs o (operationOf id (e .own)) && suits ResultReceived (operationOf id (e .own)) p) _ _ tt refl) refl
+
+error-tagged : (e : Entry) (id : ℤ) (code : ℕ) → Tagged (judgeError e id code)
+unfolding judgeError
+error-tagged e id code = tagged (among id (e .own)) _ _ (tagged (listed code) _ _ tt refl) refl
+
+-- a decision to send a Reject that can be written
+abbrev Rejects : Decision → Type 0
+Rejects (silent code) = Unit {0}
+Rejects (withCause number) = Unit {0}
+Rejects (withReject id tag number) = IsSomeId id × (problemTag tag ≡ true)
+Rejects (onReject shown) = Unit {0}
+Rejects (released shown cause) = Unit {0}
+Rejects (taken entry shown) = Unit {0}
+
+either-rejects : (b : Bool) (x y : Decision) → Rejects x → Rejects y → Rejects (cond b x y)
+either-rejects true x y h k = h
+either-rejects false x y h k = k
+
+judged-rejects : (j : Judged) (id : ℤ) (c : Component) (r : List ℕ) → SFits w8 id → Tagged j → Rejects (onJudged j id c r)
+judged-rejects (problem tag n) id c r h k = (h, k)
+judged-rejects (accepted e) id c r h k = tt
+
+six-rejects : (e : Entry) (c : Component) (r : List ℕ) → HasId c → Rejects (stepSix e c r)
+unfolding stepSix
+six-rejects e (invoke id linked o p) r h = judged-rejects (judgeInvoke e id linked o p) id _ r h (invoke-tagged e id linked o p)
+six-rejects e (result id o p) r h = judged-rejects (judgeResult e id o p) id _ r h (result-tagged e id o p)
+six-rejects e (error id code p) r h = judged-rejects (judgeError e id code) id _ r h (error-tagged e id code)
+six-rejects e (reject id tag n) r h = tt
+
+five-rejects : (e : Entry) (f : Finding) (r : List ℕ) → FindingHasId f → Rejects (stepFive e f r)
+unfolding stepFive
+five-rejects e empty r h = tt
+five-rejects e (shows c) r h = six-rejects e c r h
+five-rejects e (general n id) r h = (h, refl)
+five-rejects e leftOver r h = tt
+five-rejects e faultyReject r h = tt
+
+-- the Facility value of a message of octets is octets
+split-octets : (a r : List ℕ) → Octets (a ++ r) → Octets a
+split-octets [] r h = tt
+split-octets (x ∷ a) r h = (h .0, split-octets a r (h .1))
+
+laid-octets : (b : Bool) (v r : List ℕ) → Octets (cond b (0x1C ∷ length v ∷ (v ++ r)) (length v ∷ (v ++ r))) → Octets v
+laid-octets true v r h = split-octets v r (h .1 .1)
+laid-octets false v r h = split-octets v r (h .1)
+
+four-rejects : (e : Entry) (k : ℕ) (s : List ℕ) → Octets s → Rejects (stepFour e k s)
+unfolding stepFour required
+four-rejects e k s h = go (mandatory k s) refl
+  where
+    clearly : (b : Bool) (g : Taken (List ℕ)) → Octets (g .value) → Rejects (onRequired e (check b mandatoryMissing (sound g)))
+    clearly true g o = five-rejects e (facility (g .value)) (g .rest) (facility-has-id (g .value) o)
+    clearly false g o = tt
+
+    go : (o : Answer (Taken (List ℕ))) → mandatory k s ≡ o → Rejects (onRequired e (andThen o (λ g. check (clear (g .rest)) mandatoryMissing (sound g))))
+    go (fault n) q = tt
+    go (sound g) q = clearly (clear (g .rest)) g (laid-octets (eqb k registerType) (g .value) (g .rest) (subst Octets (mandatory-is k s (g .value) (g .rest) q) h))
+
+two-rejects : (e : Entry) (f k : ℕ) (s : List ℕ) → Octets s → Rejects (stepTwo e f k s)
+unfolding stepTwo onRelease
+two-rejects e f k s h = go (typeOf k)
+  where
+    go : (y : MessageType) → Rejects (byType e f y s)
+    go ReleaseComplete = either-rejects (e .isOpen) _ _ tt tt
+    go Facility = either-rejects (e .isOpen) _ _ (four-rejects e facilityType s h) tt
+    go Register = either-rejects (e .isOpen) _ _ tt (either-rejects (eqb f 1) _ _ tt (four-rejects e registerType s h))
+    go Unknown = tt
+
+decide-rejects : (t m : List ℕ) (room : ℕ) → Octets m → Rejects (decide t m room)
+unfolding decide
+decide-rejects t m room h =
+    either-rejects (valid t) _ _
+    (either-rejects (ltb room 12) _ _ tt
+    (either-rejects (ltb 255 (length m)) _ _ tt
+    (either-rejects (ltb (length m) 2) _ _ tt
+    (either-rejects (eqb (discriminator (firstOf m)) 11) _ _
+    (either-rejects (eqb (value (firstOf m)) 7) _ _ tt (two-rejects (entryAt t (entryOf m)) (flag (firstOf m)) (getD m 1 0) (drop 2 m) (octets-drop 2 m h))) tt))))
+    tt
+
+pub reject-reads-back : RejectReadsBack
+reject-reads-back t m room first id tag number h e =
+    let w : Writable (reject id tag number) = subst Rejects e (decide-rejects t m room h) in
+    (release-found first (octets (reject id tag number)), read-back (reject id tag number) w)

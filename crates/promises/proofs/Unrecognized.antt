@@ -1,0 +1,32 @@
+-- An operation that is not served is rejected as unrecognized.
+use Prim.Native.Nat.{ℕ}
+use mathlib.Core.Path.{_≡_, refl, sym, ap, _∙_}
+use mathlib.Core.List.{List, []}
+use mathlib.Core.Bool.{true, false}
+use mathlib.Core.Option.{Option, none, some}
+use lib.IntN.{ℤ}
+use lib.ListN.{length}
+use Rattle.codes.specs.Operations.{serves}
+use Rattle.codes.specs.Problems.{invoke as invokeProblem}
+use Rattle.components.specs.Component.{invoke}
+use Rattle.table.specs.Table.{Waiting, Entry, entryAt}
+use Rattle.judging.specs.StepSix.{problem, among, full, judgeInvoke}
+use Rattle.deciding.specs.Decision.{Decision, withReject}
+use Rattle.deciding.specs.Steps.{entryOf, stepSix, stepFive, stepFour, decide}
+use Rattle.telephone.specs.Receive.{act, receive}
+use Rattle.promises.specs.Unrecognized.{ReachesStepSix, Unrecognized}
+
+not-served : (e : Entry) (id : ℤ) (linked : Option ℤ) (operation : ℕ) (p : List ℕ) → serves operation ≡ false → e .peer ≡ []
+    → judgeInvoke e id linked operation p ≡ problem invokeProblem 1
+unfolding judgeInvoke among full
+not-served e id linked operation p s h = rw (h, s)
+
+decided : (t m b : List ℕ) (id : ℤ) (linked : Option ℤ) (operation : ℕ) (p : List ℕ) → ReachesStepSix t m b id linked operation p
+    → serves operation ≡ false → entryAt t (entryOf m) .peer ≡ [] → decide t m (length b) ≡ withReject (some id) invokeProblem 1
+unfolding stepFour stepFive stepSix
+decided t m b id linked operation p r s h =
+    r .through ∙ rw (r .required, r .shows, not-served (entryAt t (entryOf m)) id linked operation p s h)
+
+pub unrecognized : Unrecognized
+unfolding receive act
+unrecognized t m b id linked operation p r s h = rw (decided t m b id linked operation p r s h) (refl, refl)

@@ -1,0 +1,4 @@
+pub mod OneVerdict
+pub mod ReadBack
+pub mod Unrecognized
+pub mod Worked

@@ -1,0 +1,86 @@
+-- 01, "Worked messages", in hex: "Proved, as one table: W1 to W10." Each from the table it names and a buffer of zeros.
+use Prim.Native.Nat.{ℕ}
+use mathlib.Core.Path.{_≡_}
+use mathlib.Core.List.{List, [], _∷_, _++_}
+use mathlib.Core.Option.{Option, none, some}
+use lib.IntN.{ℤ, pos}
+use lib.ListN.{length, take, replicate}
+use Rattle.octets.specs.Reader.{Taken}
+use Rattle.parameters.specs.Parameter.{Text}
+use Rattle.components.specs.Component.{Component, invoke}
+use Rattle.deciding.specs.Decision.{Shows}
+use Rattle.showing.specs.Views.{textOf}
+use Rattle.telephone.specs.Outcome.{Outcome}
+use Rattle.telephone.specs.Receive.{receive}
+use Rattle.telephone.specs.Calls.{begin, result}
+
+abbrev pub zeros : ℕ → List ℕ
+zeros n = replicate n 0
+
+abbrev pub fresh : List ℕ
+fresh = zeros 70
+
+-- the table after W1: the network's value 0 waits for the answer to invoke 5 of operation 60
+abbrev pub afterW1 : List ℕ
+afterW1 = zeros 35 ++ (0x05 ∷ 0x00 ∷ 0x00 ∷ 0x05 ∷ 0x3C ∷ []) ++ zeros 30
+
+abbrev pub buffer : List ℕ
+buffer = zeros 24
+
+-- what is sent
+abbrev pub sent : Outcome → List ℕ
+sent o = take (o .written) (o .buffer)
+
+abbrev pub text : Shows → Option (Taken Text)
+text none = none
+text (some t) = textOf (t .value)
+
+abbrev pub parameter : List ℕ
+parameter = 0x30 ∷ 0x06 ∷ 0x04 ∷ 0x01 ∷ 0x0F ∷ 0x04 ∷ 0x01 ∷ 0x41 ∷ []
+
+abbrev pub w1 : List ℕ
+w1 = 0x0B ∷ 0x3B ∷ 0x1C ∷ 0x10 ∷ 0xA1 ∷ 0x0E ∷ 0x02 ∷ 0x01 ∷ 0x05 ∷ 0x02 ∷ 0x01 ∷ 0x3C ∷ parameter
+
+-- "Verdict 0, id 5, string 41, tail empty."
+abbrev pub W1 : Outcome → Type 0
+W1 o =
+    (o .code ≡ 0)
+    × ((o .shown ≡ some (record { value = invoke (pos 5) none 60 parameter; rest = [] }))
+    × ((text (o .shown) ≡ some (record { value = record { scheme = 0x0F; string = 0x41 ∷ [] }; rest = [] }))
+    × ((sent o ≡ []) × (o .table ≡ afterW1))))
+
+-- "W1 with 04 01 02 appended: lengths become 13, 11, 09; same values, tail 04 01 02."
+abbrev pub w2 : List ℕ
+w2 = 0x0B ∷ 0x3B ∷ 0x1C ∷ 0x13 ∷ 0xA1 ∷ 0x11 ∷ 0x02 ∷ 0x01 ∷ 0x05 ∷ 0x02 ∷ 0x01 ∷ 0x3C ∷ 0x30 ∷ 0x09 ∷ 0x04 ∷ 0x01 ∷ 0x0F ∷ 0x04 ∷ 0x01 ∷ 0x41 ∷ 0x04 ∷ 0x01 ∷ 0x02 ∷ []
+
+abbrev pub W2 : Outcome → Type 0
+W2 o =
+    (o .code ≡ 0)
+    × ((text (o .shown) ≡ some (record { value = record { scheme = 0x0F; string = 0x41 ∷ [] }; rest = 0x04 ∷ 0x01 ∷ 0x02 ∷ [] }))
+    × ((sent o ≡ []) × (o .table ≡ afterW1)))
+
+-- the verdict, and what is sent
+abbrev pub Answers : ℕ → List ℕ → Outcome → Type 0
+Answers code octets o = (o .code ≡ code) × (sent o ≡ octets)
+
+-- "after W1, 0B 3A and W1 from its length 10 on: verdict 3"
+abbrev pub w3 : List ℕ
+w3 = 0x0B ∷ 0x3A ∷ 0x10 ∷ 0xA1 ∷ 0x0E ∷ 0x02 ∷ 0x01 ∷ 0x05 ∷ 0x02 ∷ 0x01 ∷ 0x3C ∷ parameter
+
+abbrev pub Worked : Type 0
+Worked =
+    W1 (receive fresh w1 buffer)
+    × (W2 (receive fresh w2 buffer)
+    × (Answers 3 (0x8B ∷ 0x2A ∷ 0x1C ∷ 0x08 ∷ 0xA4 ∷ 0x06 ∷ 0x02 ∷ 0x01 ∷ 0x05 ∷ 0x81 ∷ 0x01 ∷ 0x00 ∷ []) (receive afterW1 w3 buffer)
+    -- W4, "after W1, result with 30 06 04 01 0F 04 01 31"
+    × (Answers 0 (0x8B ∷ 0x3A ∷ 0x12 ∷ 0xA2 ∷ 0x10 ∷ 0x02 ∷ 0x01 ∷ 0x05 ∷ 0x30 ∷ 0x0B ∷ 0x02 ∷ 0x01 ∷ 0x3C ∷ 0x30 ∷ 0x06 ∷ 0x04 ∷ 0x01 ∷ 0x0F ∷ 0x04 ∷ 0x01 ∷ 0x31 ∷ []) (result afterW1 buffer 0 0 (pos 5) (0x30 ∷ 0x06 ∷ 0x04 ∷ 0x01 ∷ 0x0F ∷ 0x04 ∷ 0x01 ∷ 0x31 ∷ []))
+    -- W5 to W7
+    × (Answers 2 (0x1B ∷ 0x2A ∷ 0x08 ∷ 0x02 ∷ 0xE0 ∷ 0xD1 ∷ []) (receive fresh (0x9B ∷ 0x3A ∷ 0x00 ∷ []) buffer)
+    × (Answers 2 (0x8B ∷ 0x2A ∷ 0x08 ∷ 0x02 ∷ 0xE0 ∷ 0xE1 ∷ []) (receive fresh (0x0B ∷ 0x3C ∷ []) buffer)
+    × (Answers 3 (0x8B ∷ 0x2A ∷ 0x1C ∷ 0x07 ∷ 0xA4 ∷ 0x05 ∷ 0x05 ∷ 0x00 ∷ 0x80 ∷ 0x01 ∷ 0x00 ∷ []) (receive afterW1 (0x0B ∷ 0x3A ∷ 0x02 ∷ 0xA5 ∷ 0x00 ∷ []) buffer)
+    -- W8, "fresh, 7B 3B: verdict 1"
+    × (Answers 1 [] (receive fresh (0x7B ∷ 0x3B ∷ []) buffer)
+    -- W9, "begin 59, id 1, parameter as in W1, fresh"
+    × (Answers 0 (0x0B ∷ 0x3B ∷ 0x1C ∷ 0x10 ∷ 0xA1 ∷ 0x0E ∷ 0x02 ∷ 0x01 ∷ 0x01 ∷ 0x02 ∷ 0x01 ∷ 0x3B ∷ 0x30 ∷ 0x06 ∷ 0x04 ∷ 0x01 ∷ 0x0F ∷ 0x04 ∷ 0x01 ∷ 0x41 ∷ 0x7F ∷ 0x01 ∷ 0x00 ∷ []) (begin fresh buffer 59 (pos 1) parameter)
+    -- W10, "the empty message: verdict 1"
+    × Answers 1 [] (receive fresh [] buffer)))))))))
