@@ -3,4 +3,5 @@ mod RejectBack
 pub mod OneVerdict
 pub mod ReadBack
 pub mod Unrecognized
+pub mod Determined
 pub mod Worked

@@ -1,4 +1,5 @@
 pub mod OneVerdict
 pub mod ReadBack
 pub mod Unrecognized
+pub mod Determined
 pub mod Worked

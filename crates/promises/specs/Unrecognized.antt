@@ -8,6 +8,7 @@ use mathlib.Core.Option.{Option, some}
 use lib.IntN.{ℤ}
 use lib.ListN.{length, drop}
 use Rattle.octets.specs.Reader.{took}
+use Rattle.octets.specs.Splice.{splice}
 use Rattle.codes.specs.Operations.{serves}
 use Rattle.codes.specs.Problems.{invoke as invokeProblem}
 use Rattle.components.specs.Component.{invoke, reject}
@@ -29,9 +30,9 @@ pub record ReachesStepSix (t m b : List ℕ) (id : ℤ) (linked : Option ℤ) (o
   pub required : required type (drop 2 m) ≡ took value behind
   pub shows : facility value ≡ shows (invoke id linked operation p)
 
--- verdict 3, invoke problem 1, and its id
+-- verdict 3, and a release with a Reject of its id with invoke problem 1
 abbrev pub Unrecognized : Type 0
 Unrecognized =
     (t m b : List ℕ) (id : ℤ) (linked : Option ℤ) (operation : ℕ) (p : List ℕ) → ReachesStepSix t m b id linked operation p
     → serves operation ≡ false → entryAt t (entryOf m) .peer ≡ []
-    → (receive t m b .code ≡ 3) × (receive t m b .written ≡ length (releaseFacility (replyFirst m) (octets (reject (some id) invokeProblem 1))))
+    → (receive t m b .code ≡ 3) × (receive t m b .buffer ≡ splice b 0 (releaseFacility (replyFirst m) (octets (reject (some id) invokeProblem 1))))
