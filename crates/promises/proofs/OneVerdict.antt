@@ -85,7 +85,7 @@ every-message t m b = each t m b (decide t m (length b)) (decide-says t m (lengt
 never : {C : Type 0} {k : ℕ} → _≡_ {A = Option ℕ} none (some k) → C
 never e = let z : _≡_ {A = ℕ} 0 1 = cc in absurd (omega arith)
 
-named-most : (flag value k : ℕ) → named flag value ≡ some k → k < 14
+pub named-most : (flag value k : ℕ) → named flag value ≡ some k → k < 14
 named-most flag value k e = go (leb flag 1) (leb value 6) refl e
   where
     placed : (b : Bool) → value ≤ 6 → cond b value (7 + value) < 14

@@ -3,3 +3,4 @@ pub mod ReadBack
 pub mod Unrecognized
 pub mod Determined
 pub mod Worked
+pub mod NeverDamaged
