@@ -40,7 +40,7 @@ called-local =
     (seq-local (octetIn 0x02 e) _ (octet-local 0x02 e) λ o. done-local _)
 
 -- what stands before one end is one thing
-before-is : (a b p : List ℕ) → a ++ p ≡ b ++ p → a ≡ b
+pub before-is : (a b p : List ℕ) → a ++ p ≡ b ++ p → a ≡ b
 before-is a b p e = sym (taken-is (a ++ p) a p refl) ∙ taken-is (a ++ p) b p e
 
 -- an element in any form that reads
@@ -55,7 +55,7 @@ facility-encloses : (tag : ℕ) (c s : List ℕ) → leb invokeTag tag && leb ta
 facility-encloses tag c s h n e = rw (e .is) (facility-is tag (e .form ++ c) c h (rw (← e .is) (encloses-is tag c s n e)))
 
 -- a component that is shown was read whole
-shown-was : (tag : ℕ) (s : List ℕ) (c : Component) → inside tag s ≡ shows c → component tag s ≡ sound c
+pub shown-was : (tag : ℕ) (s : List ℕ) (c : Component) → inside tag s ≡ shows c → component tag s ≡ sound c
 unfolding inside
 shown-was tag s c e = go (component tag s) e
   where
@@ -68,7 +68,7 @@ shown-was tag s c e = go (component tag s) e
     go (sound d) e = cc
 
 -- the parameter that was read is all that was left
-parameter-was : (s p : List ℕ) → parameter s ≡ sound p → p ≡ s
+pub parameter-was : (s p : List ℕ) → parameter s ≡ sound p → p ≡ s
 unfolding parameter
 parameter-was [] p e = sym (sound-inj e)
 parameter-was (a ∷ s) p e = through (alone misplaced (element (a ∷ s))) _ p e λ k u v. sym (sound-inj v)

@@ -1,5 +1,6 @@
 pub mod OneVerdict
 pub mod ReadBack
+pub mod LaterEdition
 pub mod Unrecognized
 pub mod Determined
 pub mod Worked

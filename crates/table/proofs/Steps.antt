@@ -27,6 +27,11 @@ unfolding soundImage
 sound-is i begun waited own peer b w o p =
     rw (o, p, b, w, side (hasOwn (i .state)) begins (i .ownId) (i .ownOperation), side (hasPeer (i .state)) waits (i .peerId) (i .peerOperation))
 
+-- a closed entry is sound if all is 0
+pub closed-is : (s a b c d : ℕ) → s ≡ 0 → (eqb a 0 && eqb b 0 && (eqb c 0 && eqb d 0)) ≡ soundImage (record { state = s; ownId = a; ownOperation = b; peerId = c; peerOperation = d })
+unfolding soundImage
+closed-is s a b c d e = rw e
+
 -- five octets from a place on are those of an entry
 pub image-is : (t : List ℕ) (k at s a b c d : ℕ) → at ≡ size * k → s ≡ getD t at 0 → a ≡ getD t (at + 1) 0 → b ≡ getD t (at + 2) 0 → c ≡ getD t (at + 3) 0
     → d ≡ getD t (at + 4) 0 → _≡_ {A = Image} (record { state = s; ownId = a; ownOperation = b; peerId = c; peerOperation = d }) (imageAt t k)

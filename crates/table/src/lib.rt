@@ -89,27 +89,39 @@ fn is_side_sound(used: bool, listed: bool, id: u8, operation: u8) -> bool
     (id == 0) & (operation == 0)
 }
 
-// An entry as it may stand in an image that is not damaged.
+// The five octets of an entry as they may stand in an image that is not damaged.
+fn is_image_sound(state: u8, own_id: u8, begun: u8, peer_id: u8, served: u8) -> bool
+    ensures { λ r. ⌜ r ≡ soundImage (record { state = state; ownId = «own_id»; ownOperation = begun; peerId = «peer_id»; peerOperation = served }) ⌝ }
+{
+    let own = is_side_sound(
+        (state / 2) % 2 == 1,
+        codes::operations::is_begun(begun),
+        own_id,
+        begun,
+    );
+    let peer = is_side_sound(
+        (state / 4) % 2 == 1,
+        codes::operations::is_waited_for(served),
+        peer_id,
+        served,
+    );
+    ((state == 0) | ((state % 2 == 1) & (state < 8))) & own & peer
+}
+
+// An entry of the image. Most are closed, and all zero: that is told at once.
 fn is_sound(table: &[u8], k: u8) -> bool
     ensures { λ r. ⌜ r ≡ soundImage (imageAt (now (table .entry)) k) ⌝ }
 {
     let at = start_of(k);
     let state = octet_at(table, at);
+    let own_id = octet_at(table, at + 1);
     let begun = octet_at(table, at + 2);
-    let own = is_side_sound(
-        (state / 2) % 2 == 1,
-        codes::operations::is_begun(begun),
-        octet_at(table, at + 1),
-        begun,
-    );
+    let peer_id = octet_at(table, at + 3);
     let served = octet_at(table, at + 4);
-    let peer = is_side_sound(
-        (state / 4) % 2 == 1,
-        codes::operations::is_waited_for(served),
-        octet_at(table, at + 3),
-        served,
-    );
-    ((state == 0) | ((state % 2 == 1) & (state < 8))) & own & peer
+    if state == 0 {
+        return (own_id == 0) & (begun == 0) & ((peer_id == 0) & (served == 0));
+    }
+    is_image_sound(state, own_id, begun, peer_id, served)
 }
 
 // 70 octets and fourteen sound entries; any other image is damaged.

@@ -1,0 +1,271 @@
+-- A later edition of a message that shows a text is decided as that message was: only the parameter that is shown is longer.
+use Prim.Native.Nat.{ℕ, _≤_}
+use mathlib.Core.Path.{_≡_, refl, sym, ap, _∙_}
+use mathlib.Core.List.{List, _∷_, _++_}
+use mathlib.Core.Bool.{Bool, true, false, cond, _&&_, _||_, false≢true}
+use mathlib.Core.Option.{Option, none, some}
+use native.Mathlib.Omega.{arith}
+use borrow.Author.Tests.{eqb-true, ne-eqb, le-ltb}
+use lib.ListN.{length}
+use lib.IntN.{ℤ}
+use lib.Dec.{eqb}
+use Rattle.octets.specs.Reader.{sound, Taken, took, check, isEmpty}
+use Rattle.elements.specs.Element.{row}
+use Rattle.parameters.specs.Parameter.{Text, ussd}
+use Rattle.parameters.specs.Suits.{isUssd, suits, suitsInvokeReceived, suitsResultReceived}
+use Rattle.parameters.specs.declared.suits.Place.the-variants.{InvokeReceived, ResultReceived}
+use Rattle.components.specs.Component.{Component, invoke, result, error, reject, parameterOf}
+use Rattle.components.specs.Facility.{facility}
+use Rattle.components.specs.LaterEdition.{LaterParameter, LaterFacility, withParameter}
+use Rattle.components.proofs.LaterLaws.{later-text, later-edition}
+use Rattle.messages.specs.Layout.{flag, mandatoryMissing, registerType, facilityType, releaseType}
+use Rattle.messages.specs.Scan.{clear, required, firstTaken, contentsOf, firstWhole, Passed}
+use Rattle.messages.proofs.ScanLaws.{mandatory-back, release-later, laid}
+use Rattle.table.specs.Table.{Entry}
+use Rattle.judging.specs.StepSix.{Judged, problem, accepted, orProblem, among, full, linkedProblem, operationOf, isOurs, judgeInvoke, judgeResult}
+use Rattle.codes.specs.Operations.{serves}
+use Rattle.codes.specs.Problems.{invoke as invokeProblem, result as resultProblem}
+use Rattle.deciding.specs.Decision.{Decision, Shows, silent, withCause, released, taken, shownBy}
+use Rattle.deciding.specs.Steps.{shown, onJudged, stepSix, stepFive, onRequired, stepFour, isInvoke, exceptInvoke, onRelease, stepTwo, entryOf}
+use Rattle.showing.specs.Views.{extensible, textOf}
+use Rattle.telephone.specs.Receive.{act, receive}
+use Rattle.promises.specs.LaterEdition.{LaterMessage, inRegister, inFacility, inRelease, SameButTail, CannotAlter}
+use Rattle.promises.proofs.Shown.{first-is, some-inj, nothing-shown, GoesOn, decide-further, receive-shows, five-shows, except-shows, text-is}
+
+-- the first two octets stay, so the later message goes on to step 2 too
+goes-on-later : (t : List ℕ) (space first type : ℕ) (s s′ : List ℕ) → GoesOn t space (first ∷ type ∷ s) → length (first ∷ type ∷ s′) ≤ 255 → GoesOn t space (first ∷ type ∷ s′)
+goes-on-later t space first type s s′ h n =
+    record {
+      table = h .table;
+      room = h .room;
+      most = le-ltb 255 (length (first ∷ type ∷ s′)) n;
+      least = le-ltb (length (first ∷ type ∷ s′)) 2 (omega arith);
+      protocol = h .protocol;
+      transaction = h .transaction;
+    }
+
+-- the text of a component with another parameter that reads
+text-later : (c : Component) (q : List ℕ) (h : Taken Text) → extensible c ≡ true → ussd q ≡ sound h → textOf (withParameter q c) ≡ some h
+unfolding textOf
+text-later (invoke id linked operation p) q h k u = rw (k, u)
+text-later (result id none p) q h k u = cc
+text-later (result id (some operation) p) q h k u = rw (k, u)
+text-later (error id code p) q h k u = cc
+text-later (reject id tag number) q h k u = cc
+
+-- another USSD parameter suits where one is asked for
+suits-invoke : (o : ℕ) (q : List ℕ) → eqb o 60 || eqb o 61 ≡ true → isUssd q ≡ true → suits InvokeReceived o q ≡ true
+unfolding suits suitsInvokeReceived
+suits-invoke o q k u = rw (ne-eqb o 18 (λ z. false≢true (rw z at k)), k) u
+
+or-true : (b : Bool) → b || true ≡ true
+or-true true = refl
+or-true false = refl
+
+suits-result : (q : List ℕ) → isUssd q ≡ true → suits ResultReceived 59 q ≡ true
+unfolding suits suitsResultReceived
+suits-result q u = rw u (or-true (isEmpty q))
+
+-- step 6 looks at the parameter only to see whether it suits
+invoke-accepted : (e f : Entry) (id : ℤ) (linked : Option ℤ) (o : ℕ) (p q : List ℕ) → judgeInvoke e id linked o p ≡ accepted f → suits InvokeReceived o q ≡ true
+    → judgeInvoke e id linked o q ≡ accepted f
+unfolding judgeInvoke
+invoke-accepted e f id linked o p q k s = rw s (go (among id (e .peer)) (full (e .peer)) (serves o) (linkedProblem (e .own) linked o) (suits InvokeReceived o p) _ k)
+  where
+    go : (a b c : Bool) (l : Option ℕ) (d : Bool) (y : Judged)
+        → cond a (problem invokeProblem 0) (cond b (problem invokeProblem 3) (cond c (orProblem l (cond d y (problem invokeProblem 2))) (problem invokeProblem 1))) ≡ accepted f
+        → cond a (problem invokeProblem 0) (cond b (problem invokeProblem 3) (cond c (orProblem l y) (problem invokeProblem 1))) ≡ accepted f
+    go true b c l d y h = cc
+    go false true c l d y h = cc
+    go false false false l d y h = cc
+    go false false true (some n) d y h = cc
+    go false false true none true y h = h
+    go false false true none false y h = cc
+
+result-accepted : (e f : Entry) (id : ℤ) (o : ℕ) (p q : List ℕ) → judgeResult e id (some o) p ≡ accepted f → eqb o 59 ≡ true → isUssd q ≡ true
+    → judgeResult e id (some o) q ≡ accepted f
+unfolding judgeResult isOurs
+result-accepted e f id o p q k h u =
+    go (among id (e .own)) (eqb o (operationOf id (e .own))) (suits ResultReceived (operationOf id (e .own)) p) (suits ResultReceived (operationOf id (e .own)) q) _ k
+    (λ z. rw (sym (eqb-true o (operationOf id (e .own)) z) ∙ eqb-true o 59 h) (suits-result q u))
+  where
+    go : (a b d x : Bool) (y : Judged) → cond a (cond (b && d) y (problem resultProblem 2)) (problem resultProblem 0) ≡ accepted f → (b ≡ true → x ≡ true)
+        → cond a (cond (b && x) y (problem resultProblem 2)) (problem resultProblem 0) ≡ accepted f
+    go true true true x y h i = rw (i refl) h
+    go true true false x y h i = cc
+    go true false d x y h i = cc
+    go false b d x y h i = cc
+
+-- both are taken, with one entry, and each shows its component
+record BothTaken (c c′ : Component) (d d′ : Decision) : Type 0 where
+  pub entry : Entry
+  pub behind : List ℕ
+  pub was : d ≡ taken entry (shown c behind)
+  pub becomes : d′ ≡ taken entry (shown c′ behind)
+
+both-judged : (id : ℤ) (c c′ : Component) (behind : List ℕ) (v v′ : Judged) (w : Taken Component) → shownBy (onJudged v id c behind) ≡ some w
+    → ((f : Entry) → v ≡ accepted f → v′ ≡ accepted f) → BothTaken c c′ (onJudged v id c behind) (onJudged v′ id c′ behind)
+both-judged id c c′ behind (problem tag number) v′ w k h = nothing-shown k
+both-judged id c c′ behind (accepted f) v′ w k h = record { entry = f; behind = behind; was = refl; becomes = rw (h f refl) }
+
+six-later : (e : Entry) (c : Component) (q behind : List ℕ) (w : Taken Component) → shownBy (stepSix e c behind) ≡ some w → extensible c ≡ true → isUssd q ≡ true
+    → BothTaken c (withParameter q c) (stepSix e c behind) (stepSix e (withParameter q c) behind)
+unfolding stepSix
+six-later e (invoke id linked o p) q behind w k h u = both-judged id _ _ behind _ _ w k (λ f z. invoke-accepted e f id linked o p q z (suits-invoke o q h u))
+six-later e (result id none p) q behind w k h u = absurd (false≢true h)
+six-later e (result id (some o) p) q behind w k h u = both-judged id _ _ behind _ _ w k (λ f z. result-accepted e f id o p q z h u)
+six-later e (error id code p) q behind w k h u = absurd (false≢true h)
+six-later e (reject id tag number) q behind w k h u = absurd (false≢true h)
+
+-- both are released, with one cause, and each shows its component
+record BothReleased (c c′ : Component) (d d′ : Decision) : Type 0 where
+  pub behind : List ℕ
+  pub cause : Option (Taken (List ℕ))
+  pub cause′ : Option (Taken (List ℕ))
+  pub same : contentsOf cause′ ≡ contentsOf cause
+  pub was : d ≡ released (shown c behind) cause
+  pub becomes : d′ ≡ released (shown c′ behind) cause′
+
+-- the same decision but for the component that is shown
+data Alike (c c′ : Component) (d d′ : Decision) : Type 0 where
+  bothTaken : BothTaken c c′ d d′ → Alike c c′ d d′
+  bothReleased : BothReleased c c′ d d′ → Alike c c′ d d′
+
+-- behind a test whose other branch shows nothing
+alike-held : {c c′ : Component} (b : Bool) (d d′ o : Decision) (w : Taken Component) → shownBy o ≡ none → shownBy (cond b d o) ≡ some w
+    → (shownBy d ≡ some w → Alike c c′ d d′) → Alike c c′ (cond b d o) (cond b d′ o)
+alike-held true d d′ o w n k next = next k
+alike-held false d d′ o w n k next = nothing-shown (sym n ∙ k)
+
+alike-failed : {c c′ : Component} (b : Bool) (o d d′ : Decision) (w : Taken Component) → shownBy o ≡ none → shownBy (cond b o d) ≡ some w
+    → (shownBy d ≡ some w → Alike c c′ d d′) → Alike c c′ (cond b o d) (cond b o d′)
+alike-failed true o d d′ w n k next = nothing-shown (sym n ∙ k)
+alike-failed false o d d′ w n k next = next k
+
+-- whether a mandatory part is taken does not depend on its Facility value
+required-is : (type : ℕ) (v behind : List ℕ) → required type (laid type v behind) ≡ check (clear behind) mandatoryMissing (took v behind)
+unfolding required
+required-is type v behind = rw (mandatory-back type v behind)
+
+same-kind : (q : List ℕ) (c : Component) → isInvoke (withParameter q c) ≡ isInvoke c
+same-kind q (invoke id linked operation p) = refl
+same-kind q (result id operation p) = refl
+same-kind q (error id code p) = refl
+same-kind q (reject id tag number) = refl
+
+-- from step 5 back to the whole message: c is shown with the text g, and q is its longer parameter
+module _ (c : Component) (x q : List ℕ) (g : Taken Text) (h : textOf c ≡ some g) (r : row x ≡ true) (l : LaterParameter (parameterOf c) x q) where
+  ussd-later : ussd q ≡ took (g .value) (g .rest ++ x)
+  ussd-later = later-text (parameterOf c) x q g l (text-is c g h .1) r
+
+  five-later : {s t : List ℕ} (e : Entry) (behind rest : List ℕ) → LaterFacility (parameterOf c) q s t
+      → shownBy (stepFive e (facility s) behind) ≡ some (record { value = c; rest = rest })
+      → BothTaken c (withParameter q c) (stepFive e (facility s) behind) (stepFive e (facility t) behind)
+  unfolding stepFive
+  five-later {s} {t} e behind rest f k =
+      let y = five-shows e (facility s) behind c rest k in
+      let z = later-edition (parameterOf c) x q c g f l r (y .0) refl (text-is c g h .1) in
+      rw (y .0, z .0) (six-later e c q behind _ (y .1) (text-is c g h .0) (rw ussd-later))
+
+  four-later : {s t : List ℕ} (e : Entry) (type : ℕ) (behind rest : List ℕ) → LaterFacility (parameterOf c) q s t
+      → shownBy (stepFour e type (laid type s behind)) ≡ some (record { value = c; rest = rest })
+      → BothTaken c (withParameter q c) (stepFour e type (laid type s behind)) (stepFour e type (laid type t behind))
+  unfolding stepFour
+  four-later {s} {t} e type behind rest f k = rw (required-is type s behind, required-is type t behind) (go (clear behind) (rw (required-is type s behind) at k))
+    where
+      go : (b : Bool) → shownBy (onRequired e (check b mandatoryMissing (took s behind))) ≡ some (record { value = c; rest = rest })
+          → BothTaken c (withParameter q c) (onRequired e (check b mandatoryMissing (took s behind))) (onRequired e (check b mandatoryMissing (took t behind)))
+      go true w = five-later e behind rest f w
+      go false w = nothing-shown w
+
+  register-later : {s t : List ℕ} (e : Entry) (f : ℕ) (behind rest : List ℕ) → LaterFacility (parameterOf c) q s t
+      → shownBy (stepTwo e f registerType (0x1C ∷ length s ∷ (s ++ behind))) ≡ some (record { value = c; rest = rest })
+      → Alike c (withParameter q c) (stepTwo e f registerType (0x1C ∷ length s ∷ (s ++ behind))) (stepTwo e f registerType (0x1C ∷ length t ∷ (t ++ behind)))
+  unfolding stepTwo
+  register-later e f behind rest y k =
+      alike-failed (e .isOpen) (withCause 98) _ _ _ refl k λ k₁.
+      alike-failed (eqb f 1) (silent 1) _ _ _ refl k₁ λ k₂.
+      bothTaken (four-later e registerType behind rest y k₂)
+
+  facility-later : {s t : List ℕ} (e : Entry) (f : ℕ) (behind rest : List ℕ) → LaterFacility (parameterOf c) q s t
+      → shownBy (stepTwo e f facilityType (length s ∷ (s ++ behind))) ≡ some (record { value = c; rest = rest })
+      → Alike c (withParameter q c) (stepTwo e f facilityType (length s ∷ (s ++ behind))) (stepTwo e f facilityType (length t ∷ (t ++ behind)))
+  unfolding stepTwo
+  facility-later e f behind rest y k = alike-held (e .isOpen) _ _ (withCause 81) _ refl k λ k₁. bothTaken (four-later e facilityType behind rest y k₁)
+
+  -- in a release, what steps 5 and 6 show is shown if it is no Invoke
+  shown-later : (d d′ : Decision) (rest : List ℕ) → (shownBy d ≡ some (record { value = c; rest = rest }) → BothTaken c (withParameter q c) d d′)
+      → exceptInvoke (shownBy d) ≡ some (record { value = c; rest = rest })
+      → exceptInvoke (shownBy d′) ≡ some (record { value = withParameter q c; rest = rest })
+  shown-later d d′ rest f k =
+      let y = except-shows (shownBy d) _ k in
+      let z = f (y .0) in
+      rw (z .becomes, same-kind q c, y .1) (ap (λ (w : Taken Component). shown (withParameter q c) (w .rest)) (some-inj (sym (ap shownBy (z .was)) ∙ y .0)))
+
+  onward-later : {before s t : List ℕ} (e : Entry) (behind rest : List ℕ) → Passed 0x1C before → LaterFacility (parameterOf c) q s t
+      → shownBy (onRelease e (before ++ (0x1C ∷ length s ∷ (s ++ behind)))) ≡ some (record { value = c; rest = rest })
+      → BothReleased c (withParameter q c) (onRelease e (before ++ (0x1C ∷ length s ∷ (s ++ behind)))) (onRelease e (before ++ (0x1C ∷ length t ∷ (t ++ behind))))
+  unfolding onRelease firstWhole
+  onward-later {before} {s} {t} e behind rest p f k =
+      let v = shown-later (stepFive e (facility s) behind) (stepFive e (facility t) behind) rest (five-later e behind rest f) (rw (first-is s behind p) at k) in
+      record {
+        behind = rest;
+        cause = firstTaken 0x08 (before ++ (0x1C ∷ length s ∷ (s ++ behind)));
+        cause′ = firstTaken 0x08 (before ++ (0x1C ∷ length t ∷ (t ++ behind)));
+        same = release-later s t behind p .2;
+        was = ap (λ (o : Shows). released o (firstTaken 0x08 (before ++ (0x1C ∷ length s ∷ (s ++ behind))))) k;
+        becomes = ap (λ (o : Shows). released o (firstTaken 0x08 (before ++ (0x1C ∷ length t ∷ (t ++ behind))))) (rw (first-is t behind p) v);
+      }
+
+  complete-later : {before s t : List ℕ} (e : Entry) (f : ℕ) (behind rest : List ℕ) → Passed 0x1C before → LaterFacility (parameterOf c) q s t
+      → shownBy (stepTwo e f releaseType (before ++ (0x1C ∷ length s ∷ (s ++ behind)))) ≡ some (record { value = c; rest = rest })
+      → Alike c (withParameter q c) (stepTwo e f releaseType (before ++ (0x1C ∷ length s ∷ (s ++ behind)))) (stepTwo e f releaseType (before ++ (0x1C ∷ length t ∷ (t ++ behind))))
+  unfolding stepTwo
+  complete-later e f behind rest p y k = alike-held (e .isOpen) _ _ (silent 1) _ refl k λ k₁. bothReleased (onward-later e behind rest p y k₁)
+
+  -- what is sent and kept does not depend on what is shown
+  outcome-later : (t b m m′ : List ℕ) (d d′ : Decision) → entryOf m′ ≡ entryOf m → Alike c (withParameter q c) d d′
+      → SameButTail (act t m b d) (act t m′ b d′) c g x q
+  unfolding act
+  outcome-later t b m m′ d d′ e (bothTaken y) =
+      rw (y .was, y .becomes) (record {
+        verdict = refl;
+        written = refl;
+        buffer = refl;
+        table = rw e;
+        cause = refl;
+        behind = y .behind;
+        shown = refl;
+        text = text-later c q _ (text-is c g h .0) ussd-later;
+      })
+  outcome-later t b m m′ d d′ e (bothReleased y) =
+      rw (y .was, y .becomes) (record {
+        verdict = refl;
+        written = refl;
+        buffer = refl;
+        table = rw e;
+        cause = y .same;
+        behind = y .behind;
+        shown = refl;
+        text = text-later c q _ (text-is c g h .0) ussd-later;
+      })
+
+  message-later : (t b : List ℕ) (first type : ℕ) (s s′ : List ℕ) (rest : List ℕ) → receive t (first ∷ type ∷ s) b .shown ≡ some (record { value = c; rest = rest })
+      → length (first ∷ type ∷ s′) ≤ 255
+      → ((e : Entry) → shownBy (stepTwo e (flag first) type s) ≡ some (record { value = c; rest = rest }) → Alike c (withParameter q c) (stepTwo e (flag first) type s) (stepTwo e (flag first) type s′))
+      → SameButTail (receive t (first ∷ type ∷ s) b) (receive t (first ∷ type ∷ s′) b) c g x q
+  unfolding receive entryOf
+  message-later t b first type s s′ rest k n step =
+      let y = receive-shows t (first ∷ type ∷ s) b _ k in
+      let z = goes-on-later t (length b) first type s s′ (y .0) n in
+      rw (decide-further t (first ∷ type ∷ s) (length b) (y .0), decide-further t (first ∷ type ∷ s′) (length b) z)
+      (outcome-later t b (first ∷ type ∷ s) (first ∷ type ∷ s′) _ _ refl (step _ (y .1)))
+
+  edition-later : (t b rest : List ℕ) {m m′ : List ℕ} → LaterMessage (parameterOf c) q m m′ → receive t m b .shown ≡ some (record { value = c; rest = rest }) → length m′ ≤ 255
+      → SameButTail (receive t m b) (receive t m′ b) c g x q
+  edition-later t b rest (inRegister first y behind) k n = message-later t b first registerType _ _ rest k n (λ e z. register-later e _ behind rest y z)
+  edition-later t b rest (inFacility first y behind) k n = message-later t b first facilityType _ _ rest k n (λ e z. facility-later e _ behind rest y z)
+  edition-later t b rest (inRelease first p y behind) k n = message-later t b first releaseType _ _ rest k n (λ e z. complete-later e _ behind rest p y z)
+
+pub cannot-alter : CannotAlter
+cannot-alter t b m m′ x c g s r e n = edition-later c x (e .parameter) g (s .text) r (e .becomes) t b (s .behind) (e .around) (s .shown) n
