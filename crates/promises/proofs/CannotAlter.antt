@@ -235,6 +235,7 @@ module _ (c : Component) (x q : List ℕ) (g : Taken Text) (h : textOf c ≡ som
         table = rw e;
         cause = refl;
         behind = y .behind;
+        was = refl;
         shown = refl;
         text = text-later c q _ (text-is c g h .0) ussd-later;
       })
@@ -246,6 +247,7 @@ module _ (c : Component) (x q : List ℕ) (g : Taken Text) (h : textOf c ≡ som
         table = rw e;
         cause = y .same;
         behind = y .behind;
+        was = refl;
         shown = refl;
         text = text-later c q _ (text-is c g h .0) ussd-later;
       })

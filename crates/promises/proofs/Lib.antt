@@ -12,4 +12,5 @@ pub mod Demand3
 pub mod Unrecognized
 pub mod Determined
 pub mod Worked
+pub mod Editions
 pub mod NeverDamaged

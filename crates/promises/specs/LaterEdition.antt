@@ -49,6 +49,7 @@ pub record SameButTail (o o′ : Outcome) (c : Component) (g : Taken Text) (x q 
   pub table : o′ .table ≡ o .table
   pub cause : contentsOf (o′ .cause) ≡ contentsOf (o .cause)
   pub behind : List ℕ
+  pub was : o .shown ≡ some (record { value = c; rest = behind })
   pub shown : o′ .shown ≡ some (record { value = withParameter q c; rest = behind })
   pub text : textOf (withParameter q c) ≡ some (record { value = g .value; rest = g .rest ++ x })
 

@@ -4,4 +4,5 @@ pub mod LaterEdition
 pub mod Unrecognized
 pub mod Determined
 pub mod Worked
+pub mod Editions
 pub mod NeverDamaged
