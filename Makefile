@@ -1,5 +1,5 @@
 # The habits of this repository, thin over the toolchain.
-.PHONY: run test firmware size check dev format
+.PHONY: run test firmware size speed check dev format
 
 # The main job: prove every crate, and run each program on its sample.
 run:
@@ -16,6 +16,10 @@ firmware:
 # How large the archive is, and how deep each call goes, in octets.
 size:
 	firmware/size
+
+# How long each call takes.
+speed:
+	speed/run
 
 # make check CRATE=elements: prove one crate and those below it.
 check:
