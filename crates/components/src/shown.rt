@@ -57,7 +57,7 @@ pub fn parameter_length(shown: Shown) -> usize
             code: _,
             parameter,
         } => {
-            return parameter;
+            return parameter; // of an error
         }
         Shown::Reject {
             id: _,

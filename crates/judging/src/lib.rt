@@ -44,7 +44,7 @@ pub fn is_full(waiting: Invoke) -> bool
 {
     match waiting {
         Invoke::Absent => {
-            return false;
+            return false; // there is room
         }
         Invoke::Waits {
             id: _,

@@ -261,7 +261,7 @@ pub fn no_text() -> TextView
     ensures { λ r. ⌜ r ≡ noText ⌝ }
 {
     TextView {
-        is_there: false,
+        is_there: false, // no text
         scheme: 0,
         string: Span { start: 0, end: 0 },
         tail: Span { start: 0, end: 0 },
