@@ -1,0 +1,254 @@
+//! The proved archive, by its C interface (include/smrcholet.h).
+
+/// The header's bool, read as an octet: one other than 0 or 1 is then seen.
+pub type Bool = u8;
+
+#[repr(C)]
+#[derive(Clone, Copy, Debug, Default, PartialEq, Eq)]
+pub struct Span {
+    pub start: usize,
+    pub end: usize,
+}
+
+#[repr(C)]
+#[derive(Clone, Copy, Debug, Default, PartialEq, Eq)]
+pub struct Component {
+    pub kind: u8,
+    pub has_id: Bool,
+    pub id: i8,
+    pub has_linked: Bool,
+    pub linked: i8,
+    pub has_operation: Bool,
+    pub operation: u8,
+    pub code: u8,
+    pub tag: u8,
+    pub problem: u8,
+    pub parameter: Span,
+}
+
+#[repr(C)]
+#[derive(Clone, Copy, Debug, Default, PartialEq, Eq)]
+pub struct Text {
+    pub is_there: Bool,
+    pub scheme: u8,
+    pub string: Span,
+    pub tail: Span,
+}
+
+#[repr(C)]
+#[derive(Clone, Copy, Debug, Default, PartialEq, Eq)]
+pub struct Cause {
+    pub is_there: Bool,
+    pub contents: Span,
+}
+
+#[repr(C)]
+#[derive(Clone, Copy, Debug, Default, PartialEq, Eq)]
+pub struct Received {
+    pub code: u8,
+    pub written: usize,
+    pub shown: Component,
+    pub text: Text,
+    pub cause: Cause,
+}
+
+#[repr(C)]
+#[derive(Clone, Copy, Debug, Default, PartialEq, Eq)]
+pub struct Called {
+    pub code: u8,
+    pub value: u8,
+    pub written: usize,
+}
+
+extern "C" {
+    fn smr_receive(
+        table: *mut u8,
+        table_length: usize,
+        message: *const u8,
+        message_length: usize,
+        reply: *mut u8,
+        reply_length: usize,
+    ) -> Received;
+
+    fn smr_begin(
+        table: *mut u8,
+        table_length: usize,
+        operation: u8,
+        id: i8,
+        parameter: *const u8,
+        parameter_length: usize,
+        buffer: *mut u8,
+        buffer_length: usize,
+    ) -> Called;
+
+    fn smr_invoke(
+        table: *mut u8,
+        table_length: usize,
+        flag: u8,
+        value: u8,
+        operation: u8,
+        id: i8,
+        parameter: *const u8,
+        parameter_length: usize,
+        buffer: *mut u8,
+        buffer_length: usize,
+    ) -> Called;
+
+    fn smr_result(
+        table: *mut u8,
+        table_length: usize,
+        flag: u8,
+        value: u8,
+        id: i8,
+        parameter: *const u8,
+        parameter_length: usize,
+        buffer: *mut u8,
+        buffer_length: usize,
+    ) -> Called;
+
+    fn smr_error(
+        table: *mut u8,
+        table_length: usize,
+        flag: u8,
+        value: u8,
+        id: i8,
+        code: u8,
+        parameter: *const u8,
+        parameter_length: usize,
+        buffer: *mut u8,
+        buffer_length: usize,
+    ) -> Called;
+
+    fn smr_release(
+        table: *mut u8,
+        table_length: usize,
+        flag: u8,
+        value: u8,
+        buffer: *mut u8,
+        buffer_length: usize,
+    ) -> Called;
+}
+
+pub fn receive(table: &mut [u8], message: &[u8], reply: &mut [u8]) -> Received {
+    // SAFETY: each pointer goes with its slice's own length, no two overlap, and
+    // the archive keeps none of them. The same holds for every call below.
+    unsafe {
+        smr_receive(
+            table.as_mut_ptr(),
+            table.len(),
+            message.as_ptr(),
+            message.len(),
+            reply.as_mut_ptr(),
+            reply.len(),
+        )
+    }
+}
+
+pub fn begin(
+    table: &mut [u8],
+    operation: u8,
+    id: i8,
+    parameter: &[u8],
+    buffer: &mut [u8],
+) -> Called {
+    // SAFETY: as in `receive`.
+    unsafe {
+        smr_begin(
+            table.as_mut_ptr(),
+            table.len(),
+            operation,
+            id,
+            parameter.as_ptr(),
+            parameter.len(),
+            buffer.as_mut_ptr(),
+            buffer.len(),
+        )
+    }
+}
+
+pub fn invoke(
+    table: &mut [u8],
+    (flag, value): (u8, u8),
+    operation: u8,
+    id: i8,
+    parameter: &[u8],
+    buffer: &mut [u8],
+) -> Called {
+    // SAFETY: as in `receive`.
+    unsafe {
+        smr_invoke(
+            table.as_mut_ptr(),
+            table.len(),
+            flag,
+            value,
+            operation,
+            id,
+            parameter.as_ptr(),
+            parameter.len(),
+            buffer.as_mut_ptr(),
+            buffer.len(),
+        )
+    }
+}
+
+pub fn result(
+    table: &mut [u8],
+    (flag, value): (u8, u8),
+    id: i8,
+    parameter: &[u8],
+    buffer: &mut [u8],
+) -> Called {
+    // SAFETY: as in `receive`.
+    unsafe {
+        smr_result(
+            table.as_mut_ptr(),
+            table.len(),
+            flag,
+            value,
+            id,
+            parameter.as_ptr(),
+            parameter.len(),
+            buffer.as_mut_ptr(),
+            buffer.len(),
+        )
+    }
+}
+
+pub fn error(
+    table: &mut [u8],
+    (flag, value): (u8, u8),
+    id: i8,
+    code: u8,
+    parameter: &[u8],
+    buffer: &mut [u8],
+) -> Called {
+    // SAFETY: as in `receive`.
+    unsafe {
+        smr_error(
+            table.as_mut_ptr(),
+            table.len(),
+            flag,
+            value,
+            id,
+            code,
+            parameter.as_ptr(),
+            parameter.len(),
+            buffer.as_mut_ptr(),
+            buffer.len(),
+        )
+    }
+}
+
+pub fn release(table: &mut [u8], (flag, value): (u8, u8), buffer: &mut [u8]) -> Called {
+    // SAFETY: as in `receive`.
+    unsafe {
+        smr_release(
+            table.as_mut_ptr(),
+            table.len(),
+            flag,
+            value,
+            buffer.as_mut_ptr(),
+            buffer.len(),
+        )
+    }
+}

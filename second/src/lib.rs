@@ -1,0 +1,21 @@
+//! A second program for the rules of 01, written from the papers alone.
+//!
+//! A whole message is parsed into owned values; a call returns an owned outcome
+//! and changes nothing that it was lent. `ffi` calls the proved archive.
+
+pub mod call;
+pub mod component;
+pub mod element;
+pub mod ffi;
+pub mod message;
+pub mod operation;
+pub mod parameter;
+pub mod part;
+pub mod receive;
+pub mod step6;
+pub mod table;
+pub mod view;
+pub mod write;
+
+pub use call::{begin, error, invoke, release, result, Called};
+pub use receive::{receive, Received};

@@ -1,0 +1,124 @@
+//! Step 6: a sound component against its entry of the table.
+
+use crate::component::{Answer, Component, Fault, Problem};
+use crate::element::Element;
+use crate::operation;
+use crate::parameter::Text;
+use crate::table::{Open, Waiting};
+
+/// The entry after the component, or the fault. A Reject is verdict 4's.
+pub fn weigh(component: &Component, entry: Open) -> Result<Open, Fault> {
+    match component {
+        Component::Invoke {
+            id,
+            linked,
+            operation,
+            parameter,
+        } => {
+            invoke(entry, *id, *linked, *operation, parameter.as_ref())
+                .map_err(|n| Fault::Problem(Some(*id), Problem::Invoke(n)))?;
+            Ok(with_peer(entry, *id, *operation))
+        }
+        Component::ReturnResult { id, answer } => {
+            result(entry, *id, answer.as_ref())
+                .map_err(|n| Fault::Problem(Some(*id), Problem::Result(n)))?;
+            Ok(Open { own: None, ..entry })
+        }
+        Component::ReturnError { id, code, .. } => {
+            error(entry, *id, *code).map_err(|n| Fault::Problem(Some(*id), Problem::Error(n)))?;
+            Ok(Open { own: None, ..entry })
+        }
+        Component::Reject { .. } => Ok(entry),
+    }
+}
+
+/// The text of "the invokes 60 and 61 and the result of 59".
+pub fn text(component: &Component) -> Option<Text> {
+    match component {
+        Component::Invoke {
+            operation: 60 | 61,
+            parameter,
+            ..
+        } => Text::of(parameter.as_ref()?),
+        Component::ReturnResult {
+            answer:
+                Some(Answer {
+                    operation: operation::USSD_REQUEST,
+                    parameter,
+                }),
+            ..
+        } => Text::of(parameter.as_ref()?),
+        _ => None,
+    }
+}
+
+fn with_peer(entry: Open, id: i8, operation: u8) -> Open {
+    match operation::waits_for_us(operation) {
+        true => Open {
+            peer: Some(Waiting { id, operation }),
+            ..entry
+        },
+        false => entry,
+    }
+}
+
+/// Invoke problems, in the order of step 6.
+fn invoke(
+    entry: Open,
+    id: i8,
+    linked: Option<i8>,
+    operation: u8,
+    parameter: Option<&Element>,
+) -> Result<(), u8> {
+    // "id equal to the waiting peer invoke, invoke problem 0; any other waiting, 3"
+    match entry.peer {
+        Some(waiting) if waiting.id == id => return Err(0),
+        Some(_) => return Err(3),
+        None => (),
+    }
+    // "operation not served, 1"
+    let need = operation::we_serve(operation).ok_or(1)?;
+    if let Some(linked) = linked {
+        link(entry, linked, operation)?;
+    }
+    // "parameter, 2"
+    match need.is_met_by(parameter) {
+        true => Ok(()),
+        false => Err(2),
+    }
+}
+
+/// "linked id not our outstanding one, 5; ours not operation 17, 6; linked
+/// operation not 18, 7"
+fn link(entry: Open, linked: i8, operation: u8) -> Result<(), u8> {
+    let ours = entry.own.filter(|own| own.id == linked).ok_or(5)?;
+    if ours.operation != operation::REGISTER_PASSWORD {
+        return Err(6);
+    }
+    match operation {
+        operation::GET_PASSWORD => Ok(()),
+        _ => Err(7),
+    }
+}
+
+/// "id, result problem 0; operation other than ours, or parameter, 2"
+fn result(entry: Open, id: i8, answer: Option<&Answer>) -> Result<(), u8> {
+    let ours = entry.own.filter(|own| own.id == id).ok_or(0)?;
+    if answer.is_some_and(|a| a.operation != ours.operation) {
+        return Err(2);
+    }
+    let parameter = answer.and_then(|a| a.parameter.as_ref());
+    match operation::result_read(ours.operation).is_met_by(parameter) {
+        true => Ok(()),
+        false => Err(2),
+    }
+}
+
+/// "id, error problem 0; code not listed, 2"
+fn error(entry: Open, id: i8, code: u8) -> Result<(), u8> {
+    entry.own.filter(|own| own.id == id).ok_or(0)?;
+    match operation::is_error_code(code) {
+        true => Ok(()),
+        false => Err(2),
+    }
+}

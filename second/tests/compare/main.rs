@@ -1,0 +1,22 @@
+//! The proved archive and the second program, compared call by call.
+//!
+//! Each module is one idea: `both` runs a call on the two and compares them, the
+//! others bring the calls.
+
+mod both;
+mod calls;
+mod cases;
+mod chance;
+mod changes;
+mod components;
+mod images;
+mod later;
+mod messages;
+mod notation;
+mod parameters;
+mod short;
+mod small;
+mod tables;
+mod talks;
+mod tally;
+mod wishes;

@@ -1,0 +1,137 @@
+//! Every row of up to five octets out of ten, at each place of a message.
+
+use crate::both::{compare, compare_message, Call};
+use crate::notation::octets;
+use crate::tables;
+
+const LONGEST: u32 = 5;
+
+/// Octets that make elements, sound and unsound.
+const OF_ELEMENTS: [u8; 10] = [0x00, 0x01, 0x02, 0x04, 0x05, 0x1F, 0x30, 0x80, 0x81, 0x82];
+/// Octets that make information elements.
+const OF_MESSAGES: [u8; 10] = [0x00, 0x01, 0x02, 0x08, 0x0F, 0x10, 0x1C, 0x7F, 0x80, 0xFF];
+/// Octets that make an SS-ForBS.
+const OF_SERVICES: [u8; 10] = [0x00, 0x01, 0x02, 0x04, 0x1F, 0x30, 0x81, 0x82, 0x83, 0x84];
+
+/// A table, a message's first octets, and the nested elements around the row:
+/// tag, then the octets that stand before it there.
+type Place = (&'static str, &'static str, &'static [(u8, &'static str)]);
+
+const PLACES: &[Place] = &[
+    ("own17", "8B3A", &[(0xA1, "")]),
+    ("own17", "8B3A", &[(0xA1, "020107")]),
+    ("own17", "8B3A", &[(0xA1, "020107800101")]),
+    ("own17", "8B3A", &[(0xA1, "020107020112")]),
+    ("own17", "8B3A", &[(0xA1, "020107020126")]),
+    ("open", "0B3A", &[(0xA1, "02010502013C"), (0x30, "")]),
+    ("open", "0B3A", &[(0xA1, "02010502013D"), (0x30, "04010F")]),
+    (
+        "open",
+        "0B3A",
+        &[(0xA1, "02010502013C"), (0x30, "04010F040141")],
+    ),
+    ("open", "0B3A", &[(0xA1, "020105020112"), (0x0A, "")]),
+    ("own59", "8B3A", &[(0xA2, "")]),
+    ("own59", "8B3A", &[(0xA2, "020101")]),
+    ("own59", "8B3A", &[(0xA2, "020101"), (0x30, "")]),
+    ("own59", "8B3A", &[(0xA2, "020101"), (0x30, "02013B")]),
+    (
+        "own59",
+        "8B3A",
+        &[(0xA2, "020101"), (0x30, "02013B"), (0x30, "")],
+    ),
+    (
+        "own59",
+        "8B3A",
+        &[(0xA2, "020101"), (0x30, "02013B"), (0x30, "04010F040141")],
+    ),
+    ("own10", "8B3A", &[(0xA2, "020101"), (0x30, "02010A")]),
+    (
+        "own17",
+        "8B3A",
+        &[(0xA2, "020101"), (0x30, "020111"), (0x12, "")],
+    ),
+    ("own10", "8B3A", &[(0xA3, "")]),
+    ("own10", "8B3A", &[(0xA3, "020101")]),
+    ("own10", "8B3A", &[(0xA3, "020101020147")]),
+    ("own59", "8B3A", &[(0xA4, "")]),
+    ("own59", "8B3A", &[(0xA4, "020101")]),
+    ("own59", "8B3A", &[(0xA4, "0500")]),
+    ("own59", "8B2A1C", &[(0xA2, "020101")]),
+    (
+        "fresh",
+        "0B3B1C",
+        &[(0xA1, "02010502013C"), (0x30, "04010F")],
+    ),
+];
+
+#[test]
+fn in_components() {
+    for (table, head, nest) in PLACES {
+        let (table, head) = (tables::named(table), octets(head));
+        each_row(&OF_ELEMENTS, |row| {
+            let value = nested(nest, row);
+            let message = [&head[..], &[value.len() as u8], &value].concat();
+            compare_message(&table, &message, 12 + row.len());
+        });
+    }
+}
+
+#[test]
+fn behind_the_head() {
+    let heads = [
+        ("own59", "8B2A"),
+        ("own59", "8B2A1C05A203020101"),
+        ("own59", "8B2A0801"),
+        ("fresh", "0B3B"),
+        ("fresh", "0B3B1C"),
+        ("fresh", "0B3B1C08A106020107020126"),
+        ("open", "0B3A"),
+        ("open", "0B3A00"),
+        ("open", "0B3A02A500"),
+    ];
+    for (table, head) in heads {
+        let (table, head) = (tables::named(table), octets(head));
+        each_row(&OF_MESSAGES, |row| {
+            compare_message(&table, &[&head[..], row].concat(), 12 + row.len());
+        });
+    }
+}
+
+#[test]
+fn in_parameters_of_calls() {
+    let places: [(u8, &[(u8, &str)]); 6] = [
+        (11, &[]),
+        (12, &[(0x30, "")]),
+        (13, &[(0x30, "040111")]),
+        (17, &[]),
+        (10, &[]),
+        (59, &[(0x30, "04010F")]),
+    ];
+    let table = tables::named("fresh");
+    for (operation, nest) in places {
+        each_row(&OF_SERVICES, |row| {
+            let call = Call::Begin(operation, 1, nested(nest, row));
+            compare(&table, &call, 30);
+        });
+    }
+}
+
+/// The row within its elements, the outermost first.
+fn nested(nest: &[(u8, &str)], row: &[u8]) -> Vec<u8> {
+    let Some(((tag, before), inner)) = nest.split_first() else {
+        return row.to_vec();
+    };
+    let contents = [octets(before), nested(inner, row)].concat();
+    [vec![*tag, contents.len() as u8], contents].concat()
+}
+
+fn each_row(alphabet: &[u8; 10], mut run: impl FnMut(&[u8])) {
+    for length in 0..=LONGEST {
+        for number in 0..10usize.pow(length) {
+            let digit = |place| alphabet[number / 10usize.pow(place) % 10];
+            let row: Vec<u8> = (0..length).map(digit).collect();
+            run(&row);
+        }
+    }
+}

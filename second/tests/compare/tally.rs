@@ -1,0 +1,82 @@
+//! What has occurred over a run, and what must.
+
+use crate::both::{Call, Facts};
+use std::collections::BTreeMap;
+
+#[derive(Default)]
+pub struct Tally(BTreeMap<(&'static str, u8), u64>);
+
+/// Each must occur at least so often.
+const LEAST: u64 = 100;
+
+/// What 01 names.
+const NAMED: [(&str, &[u8]); 8] = [
+    ("verdict", &[0, 1, 2, 3, 4, 5, 6, 7]),
+    ("refusal", &[20, 21, 22, 23, 24, 25, 26, 27, 28]),
+    ("cause", &[29, 81, 96, 97, 98]),
+    ("general", &[0, 1, 2]),
+    ("invoke", &[0, 1, 2, 3, 5, 6, 7]),
+    ("result", &[0, 2]),
+    ("error", &[0, 2]),
+    ("shown", &[0x00, 0xA1, 0xA2, 0xA3, 0xA4]),
+];
+
+impl Tally {
+    pub fn add(&mut self, call: &Call, facts: &Facts) {
+        let is_received = matches!(call, Call::Receive(_));
+        match (facts.code(), is_received) {
+            (code @ 20.., _) => self.count("refusal", code),
+            (code, true) => self.add_verdict(code, facts),
+            (code, false) => self.count("called", code),
+        }
+        if facts.received.text.is_there != 0 {
+            self.count("text", facts.received.shown.operation);
+        }
+    }
+
+    fn add_verdict(&mut self, code: u8, facts: &Facts) {
+        self.count("verdict", code);
+        self.count("shown", facts.received.shown.kind);
+        match (code, facts.reply()) {
+            (2, [.., cause]) => self.count("cause", cause - 128),
+            (3, [.., tag, 0x01, problem]) => {
+                let kinds = ["general", "invoke", "result", "error"];
+                self.count(kinds[usize::from(tag - 0x80)], *problem);
+            }
+            (2 | 3, _) => panic!("a reply of another form"),
+            _ => (),
+        }
+    }
+
+    fn count(&mut self, name: &'static str, number: u8) {
+        *self.0.entry((name, number)).or_default() += 1;
+    }
+
+    pub fn merge(&mut self, other: Tally) {
+        for (key, count) in other.0 {
+            *self.0.entry(key).or_default() += count;
+        }
+    }
+
+    pub fn print(&self) {
+        for ((name, number), count) in &self.0 {
+            println!("{name} {number}: {count}");
+        }
+    }
+
+    /// Every number that 01 names, often enough, and no other.
+    pub fn check(&self) {
+        for (name, numbers) in NAMED {
+            for number in numbers {
+                let count = self.0.get(&(name, *number)).copied().unwrap_or(0);
+                if count < LEAST {
+                    println!("| {name} {number}: only {count}");
+                    panic!("too few");
+                }
+            }
+            let others = self.0.keys().filter(|(n, _)| *n == name);
+            let known = others.clone().all(|(_, number)| numbers.contains(number));
+            assert!(known, "a number that 01 doesn't name");
+        }
+    }
+}
