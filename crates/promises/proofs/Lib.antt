@@ -1,3 +1,4 @@
+mod Walk
 mod Silence
 mod RejectBack
 mod Shown

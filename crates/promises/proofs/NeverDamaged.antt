@@ -18,21 +18,18 @@ use Rattle.parameters.specs.declared.suits.Place.the-variants.{InvokeReceived, 
 use Rattle.components.specs.Component.{Component, invoke, reject}
 use Rattle.components.specs.Component as component
 use Rattle.components.specs.Facility.{Finding, empty, shows, general, leftOver, faultyReject, facility}
-use Rattle.messages.specs.Layout.{discriminator, value, flag, facilityType, registerType}
-use Rattle.messages.specs.Types.{typeOf}
-use Rattle.messages.specs.Scan.{required}
-use Rattle.messages.specs.declared.layout.MessageType.{MessageType}
-use Rattle.messages.specs.declared.layout.MessageType.the-variants.{ReleaseComplete, Facility, Register, Unknown}
+use Rattle.messages.specs.Layout.{value, flag}
 use Rattle.table.specs.Table.{Waiting, Entry, closed, size, named, entryAt, withEntry, valid, lowestClosed, holdsOne, null, holds}
 use Rattle.table.proofs.TableLaws.{holds-at, valid-with, lowest-closed-is}
 use Rattle.judging.specs.StepSix.{Judged, problem, accepted, sameId, among, full, operationOf, without, linkedProblem, orProblem, kept, withPeer, withoutOwn, isOurs, judgeInvoke, judgeResult, judgeError}
 use Rattle.deciding.specs.Decision.{Decision, silent, withCause, withReject, onReject, released, taken}
-use Rattle.deciding.specs.Steps.{firstOf, entryOf, onJudged, stepSix, opened, stepFive, onRequired, stepFour, onRelease, byType, stepTwo, decide}
+use Rattle.deciding.specs.Steps.{firstOf, entryOf, onJudged, stepSix, opened, stepFive, decide}
 use Rattle.deciding.specs.Seen.{Ready}
 use Rattle.calling.specs.Calls.{Sending, orRefused, transaction, fitting, withoutPeer, begin as toBegin, invokeWithin as toInvoke, sendResult, sendError, sendRelease}
 use Rattle.telephone.specs.Receive.{act, receive}
 use Rattle.telephone.specs.Calls.{called, noValue, begin, invokeWithin, result, error, release}
 use Rattle.telephone.proofs.Paths.{entry-fits}
+use Rattle.promises.proofs.Walk.{walk}
 use Rattle.promises.proofs.Silence.{isLoud, loud-ready}
 use Rattle.promises.proofs.OneVerdict.{named-most}
 use Rattle.promises.specs.NeverDamaged.{NeverDamaged}
@@ -132,10 +129,6 @@ judged-holds : (j : Judged) (id : ℤ) (c : Component) (r : List ℕ) → Kept j
 judged-holds (problem tag n) id c r k = tt
 judged-holds (accepted e) id c r k = k
 
-either-holds : (b : Bool) (x y : Decision) → Holds x → Holds y → Holds (cond b x y)
-either-holds true x y h k = h
-either-holds false x y h k = k
-
 module _ (e : Entry) (h : holds e ≡ true) where
   six-holds : (c : Component) (r : List ℕ) → Holds (stepSix e c r)
   unfolding stepSix
@@ -152,28 +145,6 @@ module _ (e : Entry) (h : holds e ≡ true) where
   five-holds leftOver r = tt
   five-holds faultyReject r = tt
 
-  four-holds : (k : ℕ) (s : List ℕ) → Holds (stepFour e k s)
-  unfolding stepFour
-  four-holds k s = go (required k s)
-    where
-      go : (o : Answer (Taken (List ℕ))) → Holds (onRequired e o)
-      go (fault n) = tt
-      go (sound g) = five-holds (facility (g .value)) (g .rest)
-
-  two-holds : (f k : ℕ) (s : List ℕ) → Holds (stepTwo e f k s)
-  unfolding stepTwo onRelease
-  two-holds f k s = go (typeOf k)
-    where
-      go : (y : MessageType) → Holds (byType e f y s)
-      go ReleaseComplete = either-holds (e .isOpen) _ _ tt tt
-      go Facility = either-holds (e .isOpen) _ _ (four-holds facilityType s) tt
-      go Register = either-holds (e .isOpen) _ _ tt (either-holds (eqb f 1) _ _ tt (four-holds registerType s))
-      go Unknown = tt
-
-holds-if : (b : Bool) (x y : Decision) → (b ≡ true → Holds x) → (b ≡ false → Holds y) → Holds (cond b x y)
-holds-if true x y h k = h refl
-holds-if false x y h k = k refl
-
 entry-below : (m : List ℕ) → (value (firstOf m) ≡ 7 → ⊥) → entryOf m < 14
 unfolding entryOf
 entry-below m n = let v : value (firstOf m) < 7 = omega arith in go (eqb (flag (firstOf m)) 1) (value (firstOf m)) v
@@ -182,18 +153,10 @@ entry-below m n = let v : value (firstOf m) < 7 = omega arith in go (eqb (flag (
     go true v h = omega arith
     go false v h = omega arith
 
-decide-holds : (t m : List ℕ) (room : ℕ) → valid t ≡ true → Holds (decide t m room)
-unfolding decide
-decide-holds t m room v =
-    either-holds (valid t) _ _
-    (either-holds (ltb room 12) _ _ tt
-    (either-holds (ltb 255 (length m)) _ _ tt
-    (either-holds (ltb (length m) 2) _ _ tt
-    (either-holds (eqb (discriminator (firstOf m)) 11) _ _
-    (holds-if (eqb (value (firstOf m)) 7) _ _ (λ w. tt)
-    (λ w. two-holds (entryAt t (entryOf m)) (holds-at t (entryOf m) v (entry-below m (eqb-false (value (firstOf m)) 7 w))) (flag (firstOf m)) (getD m 1 0) (drop 2 m)))
-    tt))))
-    tt
+decide-holds : (t m : List ℕ) (room : ℕ) → Holds (decide t m room)
+decide-holds t m room =
+    walk Holds (λ code k. tt) (λ n. tt) (λ shown cause. tt) t m room
+    (λ v n type g q. five-holds (entryAt t (entryOf m)) (holds-at t (entryOf m) v (entry-below m n)) (facility (g .value)) (g .rest))
 
 closed-holds : holds closed ≡ true
 unfolding holds
@@ -311,7 +274,7 @@ pub never-damaged : NeverDamaged
 unfolding receive begin invokeWithin result error release
 never-damaged t m b p flag value operation code id v =
     let n = length b in (
-      act-valid t m b (decide t m n) v (loud-ready t m n) (decide-holds t m n v),
+      act-valid t m b (decide t m n) v (loud-ready t m n) (decide-holds t m n),
       (
         called-valid t b (λ s. s .entry) (toBegin t n operation id p) v (fine-begin t n operation id p),
         (

@@ -7,7 +7,7 @@ use mathlib.Core.Option.{Option, none, some}
 use native.Mathlib.Omega.{arith}
 use lib.IntN.{ℤ}
 use lib.ListN.{length, getD, drop}
-use lib.Dec.{ltb, leb, eqb}
+use lib.Dec.{leb, eqb}
 use mir.Syntax.{w8}
 use mir.Val.{SFits}
 use mir.Facts.{sfits-toZ}
@@ -29,18 +29,16 @@ use Rattle.codes.specs.Errors.{listed}
 use Rattle.codes.specs.Problems.{invoke as invokeProblem}
 use Rattle.parameters.specs.Suits.{suits}
 use Rattle.parameters.specs.declared.suits.Place.the-variants.{InvokeReceived, ResultReceived}
-use Rattle.messages.specs.Layout.{discriminator, value, flag, facilityType, registerType, mandatoryMissing, mandatory}
-use Rattle.messages.specs.Types.{typeOf}
+use Rattle.messages.specs.Layout.{registerType, mandatoryMissing, mandatory}
 use Rattle.messages.specs.Scan.{clear, required}
-use Rattle.messages.specs.declared.layout.MessageType.{MessageType}
-use Rattle.messages.specs.declared.layout.MessageType.the-variants.{ReleaseComplete, Facility, Register, Unknown}
 use Rattle.messages.proofs.ScanLaws.{mandatory-is}
 use Rattle.sending.proofs.SentBack.{release-found}
-use Rattle.table.specs.Table.{Entry, entryAt, valid}
+use Rattle.table.specs.Table.{Entry, entryAt}
 use Rattle.judging.specs.StepSix.{Judged, problem, accepted, among, full, operationOf, linkedProblem, orProblem, withPeer, isOurs, judgeInvoke, judgeResult, judgeError}
 use Rattle.deciding.specs.Decision.{Decision, silent, withCause, withReject, onReject, released, taken}
-use Rattle.deciding.specs.Steps.{firstOf, entryOf, onJudged, stepSix, stepFive, onRequired, stepFour, onRelease, byType, stepTwo, decide}
+use Rattle.deciding.specs.Steps.{entryOf, onJudged, stepSix, stepFive, decide}
 use Rattle.promises.specs.ReadBack.{RejectReadsBack}
+use Rattle.promises.proofs.Walk.{walk}
 use Rattle.places.specs.Places.{called, coded, rejected, parameter}
 
 -- the first octet of octets
@@ -186,10 +184,6 @@ Rejects (onReject shown) = Unit {0}
 Rejects (released shown cause) = Unit {0}
 Rejects (taken entry shown) = Unit {0}
 
-either-rejects : (b : Bool) (x y : Decision) → Rejects x → Rejects y → Rejects (cond b x y)
-either-rejects true x y h k = h
-either-rejects false x y h k = k
-
 judged-rejects : (j : Judged) (id : ℤ) (c : Component) (r : List ℕ) → SFits w8 id → Tagged j → Rejects (onJudged j id c r)
 judged-rejects (problem tag n) id c r h k = (h, k)
 judged-rejects (accepted e) id c r h k = tt
@@ -218,38 +212,18 @@ laid-octets : (b : Bool) (v r : List ℕ) → Octets (cond b (0x1C ∷ length v 
 laid-octets true v r h = split-octets v r (h .1 .1)
 laid-octets false v r h = split-octets v r (h .1)
 
-four-rejects : (e : Entry) (k : ℕ) (s : List ℕ) → Octets s → Rejects (stepFour e k s)
-unfolding stepFour required
-four-rejects e k s h = go (mandatory k s) refl
-  where
-    clearly : (b : Bool) (g : Taken (List ℕ)) → Octets (g .value) → Rejects (onRequired e (check b mandatoryMissing (sound g)))
-    clearly true g o = five-rejects e (facility (g .value)) (g .rest) (facility-has-id (g .value) o)
-    clearly false g o = tt
-
-    go : (o : Answer (Taken (List ℕ))) → mandatory k s ≡ o → Rejects (onRequired e (andThen o (λ g. check (clear (g .rest)) mandatoryMissing (sound g))))
-    go (fault n) q = tt
-    go (sound g) q = clearly (clear (g .rest)) g (laid-octets (eqb k registerType) (g .value) (g .rest) (subst Octets (mandatory-is k s (g .value) (g .rest) q) h))
-
-two-rejects : (e : Entry) (f k : ℕ) (s : List ℕ) → Octets s → Rejects (stepTwo e f k s)
-unfolding stepTwo onRelease
-two-rejects e f k s h = go (typeOf k)
-  where
-    go : (y : MessageType) → Rejects (byType e f y s)
-    go ReleaseComplete = either-rejects (e .isOpen) _ _ tt tt
-    go Facility = either-rejects (e .isOpen) _ _ (four-rejects e facilityType s h) tt
-    go Register = either-rejects (e .isOpen) _ _ tt (either-rejects (eqb f 1) _ _ tt (four-rejects e registerType s h))
-    go Unknown = tt
+value-octets : (type : ℕ) (s : List ℕ) (g : Taken (List ℕ)) → required type s ≡ sound g → Octets s → Octets (g .value)
+unfolding required
+value-octets type s g e h =
+    through (mandatory type s) _ g e λ f p q.
+    passed (clear (f .rest)) mandatoryMissing (sound f) g q λ k z.
+    let o = laid-octets (eqb type registerType) (f .value) (f .rest) (subst Octets (mandatory-is type s (f .value) (f .rest) p) h) in
+    subst Octets (ap (λ (y : Taken (List ℕ)). y .value) (sound-inj z)) o
 
 decide-rejects : (t m : List ℕ) (room : ℕ) → Octets m → Rejects (decide t m room)
-unfolding decide
 decide-rejects t m room h =
-    either-rejects (valid t) _ _
-    (either-rejects (ltb room 12) _ _ tt
-    (either-rejects (ltb 255 (length m)) _ _ tt
-    (either-rejects (ltb (length m) 2) _ _ tt
-    (either-rejects (eqb (discriminator (firstOf m)) 11) _ _
-    (either-rejects (eqb (value (firstOf m)) 7) _ _ tt (two-rejects (entryAt t (entryOf m)) (flag (firstOf m)) (getD m 1 0) (drop 2 m) (octets-drop 2 m h))) tt))))
-    tt
+    walk Rejects (λ code k. tt) (λ n. tt) (λ shown cause. tt) t m room
+    (λ v n type g q. five-rejects (entryAt t (entryOf m)) (facility (g .value)) (g .rest) (facility-has-id (g .value) (value-octets type (drop 2 m) g q (octets-drop 2 m h))))
 
 pub reject-reads-back : RejectReadsBack
 reject-reads-back t m room first id tag number h e =

@@ -6,24 +6,20 @@ use mathlib.Core.Bool.{Bool, true, false, cond, false≢true}
 use mathlib.Core.Option.{Option, none, some}
 use native.Mathlib.Omega.{arith}
 use lib.IntN.{ℤ}
-use lib.ListN.{length, getD, drop}
+use lib.ListN.{length}
 use lib.Dec.{ltb, eqb}
 use borrow.Author.Tests.{ltb-false, eqb-false}
-use Rattle.octets.specs.Reader.{Answer, fault, sound, Taken}
 use Rattle.components.specs.Component.{Component, invoke, result, error, reject}
 use Rattle.components.specs.Facility.{Finding, empty, shows, general, leftOver, faultyReject, facility}
-use Rattle.messages.specs.Layout.{discriminator, value, flag, facilityType, registerType}
-use Rattle.messages.specs.Types.{typeOf}
-use Rattle.messages.specs.Scan.{required}
-use Rattle.messages.specs.declared.layout.MessageType.{MessageType}
-use Rattle.messages.specs.declared.layout.MessageType.the-variants.{ReleaseComplete, Facility, Register, Unknown}
+use Rattle.messages.specs.Layout.{discriminator, value}
 use Rattle.table.specs.Table.{Entry, entryAt, valid}
 use Rattle.table.proofs.TableLaws.{valid-each}
 use Rattle.judging.specs.StepSix.{Judged, problem, accepted, judgeInvoke, judgeResult, judgeError}
 use Rattle.deciding.specs.Decision.{Decision, silent, withCause, withReject, onReject, released, taken}
-use Rattle.deciding.specs.Steps.{firstOf, entryOf, onJudged, stepSix, stepFive, onRequired, stepFour, onRelease, byType, stepTwo, decide}
+use Rattle.deciding.specs.Steps.{firstOf, entryOf, onJudged, stepSix, stepFive, decide}
 use Rattle.deciding.specs.Seen.{Ready}
 use Rattle.promises.specs.OneVerdict.{sendsNothing}
+use Rattle.promises.proofs.Walk.{walk}
 
 -- a decision that answers, or keeps silent with one of 01's numbers
 abbrev pub Says : Decision → Bool
@@ -61,38 +57,8 @@ five-says e (general n i) r = refl
 five-says e leftOver r = refl
 five-says e faultyReject r = refl
 
-four-says : (e : Entry) (k : ℕ) (s : List ℕ) → Says (stepFour e k s) ≡ true
-unfolding stepFour
-four-says e k s = go (required k s)
-  where
-    go : (o : Answer (Taken (List ℕ))) → Says (onRequired e o) ≡ true
-    go (fault n) = refl
-    go (sound g) = five-says e (facility (g .value)) (g .rest)
-
-either-says : (b : Bool) (x y : Decision) → Says x ≡ true → Says y ≡ true → Says (cond b x y) ≡ true
-either-says true x y h k = h
-either-says false x y h k = k
-
-two-says : (e : Entry) (f k : ℕ) (s : List ℕ) → Says (stepTwo e f k s) ≡ true
-unfolding stepTwo onRelease
-two-says e f k s = go (typeOf k)
-  where
-    go : (y : MessageType) → Says (byType e f y s) ≡ true
-    go ReleaseComplete = either-says (e .isOpen) _ _ refl refl
-    go Facility = either-says (e .isOpen) _ _ (four-says e facilityType s) refl
-    go Register = either-says (e .isOpen) _ _ refl (either-says (eqb f 1) _ _ refl (four-says e registerType s))
-    go Unknown = refl
-
-module _ (t m : List ℕ) (room : ℕ) where
-  pub decide-says : Says (decide t m room) ≡ true
-  unfolding decide
-  decide-says =
-      either-says (valid t) _ _
-      (either-says (ltb room 12) _ _ refl
-      (either-says (ltb 255 (length m)) _ _ refl
-      (either-says (ltb (length m) 2) _ _ refl
-      (either-says (eqb (discriminator (firstOf m)) 11) _ _ (either-says (eqb (value (firstOf m)) 7) _ _ refl (two-says (entryAt t (entryOf m)) (flag (firstOf m)) (getD m 1 0) (drop 2 m))) refl))))
-      refl
+pub decide-says : (t m : List ℕ) (room : ℕ) → Says (decide t m room) ≡ true
+decide-says t m room = walk (λ d. Says d ≡ true) (λ code h. h) (λ n. refl) (λ shown cause. refl) t m room (λ v n type g q. five-says (entryAt t (entryOf m)) (facility (g .value)) (g .rest))
 
 -- whether a decision is no silence
 abbrev pub isLoud : Decision → Bool
