@@ -2,7 +2,7 @@
 -- sends a message and changes the entry of its transaction.
 use Prim.Native.Nat.{ℕ}
 use mathlib.Core.List.{List, [], _∷_, _++_}
-use mathlib.Core.Bool.{Bool, true, cond, not}
+use mathlib.Core.Bool.{true, not}
 use mathlib.Core.Option.{Option, none, some}
 use lib.IntN.{ℤ}
 use lib.ListN.{length}
@@ -15,7 +15,7 @@ use Rattle.parameters.specs.declared.suits.Place.the-variants.{InvokeWritten, R
 use Rattle.components.specs.Component.{invoke, error}
 use Rattle.components.specs.Written.{octets, answer}
 use Rattle.messages.specs.Layout.{sentFirst, register, facilityMessage, release}
-use Rattle.table.specs.Table.{Waiting, Entry, closed, place, named, entryAt, valid, lowestClosed}
+use Rattle.table.specs.Table.{Entry, closed, place, named, entryAt, valid, lowestClosed}
 use Rattle.judging.specs.StepSix.{among, full, operationOf, without}
 
 pub record Sending : Type 0 where

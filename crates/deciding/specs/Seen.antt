@@ -43,7 +43,7 @@ DecisionWithin s (Decision.OnReject told) = ToldWithin s told
 DecisionWithin s (Decision.Released told cause) = ToldWithin s told × PartWithin s cause
 DecisionWithin s (Decision.Taken slot told) = ToldWithin s told
 
--- whoever acts finds room for any reply, an image of full length, and an entry
+-- nothing is sent and nothing changes
 abbrev pub isSilent : Decision → Bool
 isSilent (Decision.Silent code) = true
 isSilent (Decision.WithCause number) = false
@@ -52,5 +52,6 @@ isSilent (Decision.OnReject told) = false
 isSilent (Decision.Released told cause) = false
 isSilent (Decision.Taken slot told) = false
 
+-- whoever acts otherwise finds an image of full length, room for any reply, and one of the fourteen entries
 abbrev pub Ready : List ℕ → List ℕ → ℕ → Type 0
 Ready table m room = (length table ≡ imageLength) × ((12 ≤ room) × ((2 ≤ length m) × (value (firstOf m) < 7)))

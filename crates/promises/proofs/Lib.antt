@@ -1,4 +1,6 @@
 mod Walk
+mod Held
+mod CallFacts
 mod Silence
 mod RejectBack
 mod Shown

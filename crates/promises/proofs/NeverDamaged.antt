@@ -1,85 +1,38 @@
 -- No message and no call damages the table: every entry that is written can be held by an image.
 use Prim.Native.Nat.{ℕ, _+_, _*_, _≤_, _<_}
-use mathlib.Core.Path.{_≡_, refl, sym, ap, subst, _∙_}
-use mathlib.Core.List.{List, [], _∷_, _++_}
-use mathlib.Core.Bool.{Bool, true, false, cond, not, _&&_, _||_, false≢true}
+use mathlib.Core.Path.{_≡_, refl}
+use mathlib.Core.List.{List}
+use mathlib.Core.Bool.{Bool, true, false, cond, _&&_}
 use mathlib.Core.Option.{Option, none, some}
 use native.Mathlib.Omega.{arith}
 use lib.IntN.{ℤ}
-use lib.ListN.{length, getD, drop}
-use lib.Dec.{ltb, leb, eqb}
-use borrow.Author.Tests.{eqb-false}
-use Rattle.octets.specs.Reader.{Answer, fault, sound, Taken, andThen, check}
-use Rattle.codes.specs.Operations.{begins, waits, serves}
+use lib.ListN.{length}
+use lib.Dec.{eqb}
+use Rattle.octets.specs.Reader.{Answer, fault, sound, Taken}
+use Rattle.codes.specs.Operations.{begins, serves}
 use Rattle.codes.specs.Errors.{listed}
 use Rattle.codes.specs.Problems.{invoke as invokeProblem}
-use Rattle.parameters.specs.Suits.{suits, noneOrOne}
-use Rattle.parameters.specs.declared.suits.Place.the-variants.{InvokeReceived, ResultReceived, InvokeWritten, ResultWritten}
+use Rattle.parameters.specs.Suits.{suits}
+use Rattle.parameters.specs.declared.suits.Place.the-variants.{InvokeReceived, ResultReceived}
 use Rattle.components.specs.Component.{Component, invoke, reject}
 use Rattle.components.specs.Component as component
 use Rattle.components.specs.Facility.{Finding, empty, shows, general, leftOver, faultyReject, facility}
-use Rattle.messages.specs.Layout.{value, flag}
-use Rattle.table.specs.Table.{Waiting, Entry, closed, size, named, entryAt, withEntry, valid, lowestClosed, holdsOne, null, holds}
-use Rattle.table.proofs.TableLaws.{holds-at, valid-with, lowest-closed-is}
-use Rattle.judging.specs.StepSix.{Judged, problem, accepted, sameId, among, full, operationOf, without, linkedProblem, orProblem, kept, withPeer, withoutOwn, isOurs, judgeInvoke, judgeResult, judgeError}
+use Rattle.messages.specs.Layout.{value as valueOf, flag as flagOf}
+use Rattle.table.specs.Table.{Entry, closed, size, named, lowestClosed, entryAt, withEntry, valid, holds}
+use Rattle.table.proofs.TableLaws.{holds-at, valid-with}
+use Rattle.judging.specs.StepSix.{Judged, problem, accepted, among, full, operationOf, without, linkedProblem, orProblem, kept, withPeer, withoutOwn, isOurs, judgeInvoke, judgeResult, judgeError}
 use Rattle.deciding.specs.Decision.{Decision, silent, withCause, withReject, onReject, released, taken}
 use Rattle.deciding.specs.Steps.{firstOf, entryOf, onJudged, stepSix, opened, stepFive, decide}
 use Rattle.deciding.specs.Seen.{Ready}
-use Rattle.calling.specs.Calls.{Sending, orRefused, transaction, fitting, withoutPeer, begin as toBegin, invokeWithin as toInvoke, sendResult, sendError, sendRelease}
+use Rattle.calling.specs.Calls.{Sending, begin as toBegin, invokeWithin as toInvoke, sendResult, sendError, sendRelease}
 use Rattle.telephone.specs.Receive.{act, receive}
 use Rattle.telephone.specs.Calls.{called, noValue, begin, invokeWithin, result, error, release}
 use Rattle.telephone.proofs.Paths.{entry-fits}
 use Rattle.promises.proofs.Walk.{walk}
 use Rattle.promises.proofs.Silence.{isLoud, loud-ready}
-use Rattle.promises.proofs.OneVerdict.{named-most}
+use Rattle.promises.proofs.Held.{holds-open, own-of, peer-of, one-kept, one-less, open-of, closed-holds}
+use Rattle.promises.proofs.CallFacts.{Fine, fine-begin, fine-invoke, fine-result, fine-error, fine-release}
 use Rattle.promises.specs.NeverDamaged.{NeverDamaged}
-
-and-true : (a b : Bool) → a && b ≡ true → (a ≡ true) × (b ≡ true)
-and-true true b h = (refl, h)
-and-true false b h = absurd (false≢true h)
-
--- the three parts of what an image can hold, for an entry that stays or becomes open
-holds-open : (own peer : List Waiting) → holdsOne begins own ≡ true → holdsOne waits peer ≡ true → holds (record { isOpen = true; own = own; peer = peer }) ≡ true
-unfolding holds
-holds-open own peer a b = rw (a, b)
-
-own-of : (e : Entry) → holds e ≡ true → holdsOne begins (e .own) ≡ true
-unfolding holds
-own-of e h = and-true (holdsOne begins (e .own)) (holdsOne waits (e .peer)) (and-true (holdsOne begins (e .own) && holdsOne waits (e .peer)) _ h .0) .0
-
-peer-of : (e : Entry) → holds e ≡ true → holdsOne waits (e .peer) ≡ true
-unfolding holds
-peer-of e h = and-true (holdsOne begins (e .own)) (holdsOne waits (e .peer)) (and-true (holdsOne begins (e .own) && holdsOne waits (e .peer)) _ h .0) .1
-
-one-kept : (peer : List Waiting) (id : ℤ) (o : ℕ) → full peer ≡ false → holdsOne waits (kept peer id o) ≡ true
-unfolding full
-one-kept [] id o h = go (waits o) refl
-  where
-    go : (b : Bool) → waits o ≡ b → holdsOne waits (cond b ([] ++ (record { id = id; operation = o } ∷ [])) []) ≡ true
-    go true e = e
-    go false e = refl
-one-kept (w ∷ ws) id o h = absurd (false≢true (sym h))
-
--- one fewer can be held where one could
-one-less : (p : ℕ → Bool) (id : ℤ) (ws : List Waiting) → holdsOne p ws ≡ true → holdsOne p (without id ws) ≡ true
-unfolding without
-one-less p id [] h = refl
-one-less p id (w ∷ []) h = go (sameId (w .id) id)
-  where
-    go : (b : Bool) → holdsOne p (cond b [] (w ∷ [])) ≡ true
-    go true = refl
-    go false = h
-one-less p id (w ∷ v ∷ ws) h = absurd (false≢true h)
-
--- an entry in which some invoke waits is open
-open-of : (e : Entry) (id : ℤ) → holds e ≡ true → among id (e .own) ≡ true → e .isOpen ≡ true
-unfolding holds among
-open-of e id h a = go (e .isOpen) (e .own) (and-true (holdsOne begins (e .own) && holdsOne waits (e .peer)) _ h .1) a
-  where
-    go : (o : Bool) (own : List Waiting) → o || (null own && null (e .peer)) ≡ true → among id own ≡ true → o ≡ true
-    go true own k q = refl
-    go false [] k q = absurd (false≢true q)
-    go false (w ∷ ws) k q = absurd (false≢true k)
 
 -- what step 6 accepts can be held
 abbrev Kept : Judged → Type 0
@@ -145,9 +98,9 @@ module _ (e : Entry) (h : holds e ≡ true) where
   five-holds leftOver r = tt
   five-holds faultyReject r = tt
 
-entry-below : (m : List ℕ) → (value (firstOf m) ≡ 7 → ⊥) → entryOf m < 14
+entry-below : (m : List ℕ) → (valueOf (firstOf m) ≡ 7 → ⊥) → entryOf m < 14
 unfolding entryOf
-entry-below m n = let v : value (firstOf m) < 7 = omega arith in go (eqb (flag (firstOf m)) 1) (value (firstOf m)) v
+entry-below m n = let v : valueOf (firstOf m) < 7 = omega arith in go (eqb (flagOf (firstOf m)) 1) (valueOf (firstOf m)) v
   where
     go : (b : Bool) (v : ℕ) → v < 7 → cond b v (7 + v) < 14
     go true v h = omega arith
@@ -157,10 +110,6 @@ decide-holds : (t m : List ℕ) (room : ℕ) → Holds (decide t m room)
 decide-holds t m room =
     walk Holds (λ code k. tt) (λ n. tt) (λ shown cause. tt) t m room
     (λ v n type g q. five-holds (entryAt t (entryOf m)) (holds-at t (entryOf m) v (entry-below m n)) (facility (g .value)) (g .rest))
-
-closed-holds : holds closed ≡ true
-unfolding holds
-closed-holds = refl
 
 -- an entry of the image, from the room that it needs
 below-of : (t : List ℕ) (k : ℕ) → length t ≡ 70 → size * k + size ≤ length t → k < 14
@@ -175,100 +124,9 @@ act-valid t m b (onReject shown) v r h = valid-with t (entryOf m) closed v (belo
 act-valid t m b (released shown cause) v r h = valid-with t (entryOf m) closed v (below-of t (entryOf m) (r refl .0) (entry-fits t m (length b) (r refl))) closed-holds
 act-valid t m b (taken e shown) v r h = valid-with t (entryOf m) e v (below-of t (entryOf m) (r refl .0) (entry-fits t m (length b) (r refl))) h
 
--- a call: refused, or the entry that it writes can be held and is one of the fourteen
-abbrev Fine : Answer Sending → Type 0
-Fine (fault n) = Unit {0}
-Fine (sound s) = (holds (s .becomes) ≡ true) × (s .entry < 14)
-
-fine-check : (b : Bool) (n : ℕ) (o : Answer Sending) → (b ≡ true → Fine o) → Fine (check b n o)
-fine-check true n o k = k refl
-fine-check false n o k = tt
-
-fine-fitting : (room : ℕ) (s : Sending) → holds (s .becomes) ≡ true → s .entry < 14 → Fine (fitting room s)
-unfolding fitting
-fine-fitting room s h l = fine-check (leb (length (s .message)) 255) 26 _ λ a. fine-check (leb (length (s .message)) room) 27 (sound s) λ c. (h, l)
-
-fine-named : (o : Option ℕ) (n : ℕ) (k : ℕ → Answer Sending) → ((v : ℕ) → o ≡ some v → Fine (k v)) → Fine (andThen (orRefused n o) k)
-fine-named none n k f = tt
-fine-named (some v) n k f = f v refl
-
-not-of : (b : Bool) → not b ≡ true → b ≡ false
-not-of true h = absurd (false≢true h)
-not-of false h = refl
-
-module _ (t : List ℕ) (room : ℕ) where
-  fine-transaction : (flag value : ℕ) (f : ℕ → Answer Sending) → ((k : ℕ) → k < 14 → entryAt t k .isOpen ≡ true → Fine (f k)) → Fine (andThen (transaction t flag value) f)
-  unfolding transaction
-  fine-transaction flag value f h = go (named flag value) refl
-    where
-      is-open : (k : ℕ) (b : Bool) → entryAt t k .isOpen ≡ b → k < 14 → Fine (andThen (check b 22 (sound k)) f)
-      is-open k true e l = h k l e
-      is-open k false e l = tt
-
-      go : (o : Option ℕ) → named flag value ≡ o → Fine (andThen (andThen (orRefused 22 o) (λ k. check (entryAt t k .isOpen) 22 (sound k))) f)
-      go none e = tt
-      go (some k) e = is-open k (entryAt t k .isOpen) refl (named-most flag value k e)
-
-  fine-begin : (o : ℕ) (id : ℤ) (p : List ℕ) → Fine (toBegin t room o id p)
-  unfolding toBegin
-  fine-begin o id p =
-      fine-check (valid t) 28 _ λ v.
-      fine-check (begins o) 20 _ λ a.
-      fine-named (lowestClosed t) 21 _ λ n e.
-      fine-check (suits InvokeWritten o p) 25 _ λ c.
-      let k = lowest-closed-is t n e .0 in
-      fine-fitting room _ (holds-open (record { id = id; operation = o } ∷ []) [] a refl) (omega arith)
-
-  with-own : (own peer : List Waiting) (id : ℤ) (o : ℕ) → full own ≡ false → begins o ≡ true → holdsOne waits peer ≡ true
-      → holds (record { isOpen = true; own = own ++ (record { id = id; operation = o } ∷ []); peer = peer }) ≡ true
-  unfolding full
-  with-own [] peer id o f a q = holds-open (record { id = id; operation = o } ∷ []) peer a q
-  with-own (w ∷ ws) peer id o f a q = absurd (false≢true (sym f))
-
-  fine-invoke : (flag value o : ℕ) (id : ℤ) (p : List ℕ) → Fine (toInvoke t room flag value o id p)
-  unfolding toInvoke
-  fine-invoke flag value o id p =
-      fine-check (valid t) 28 _ λ v.
-      fine-check (begins o) 20 _ λ a.
-      fine-transaction flag value _ λ k l q.
-      fine-check (not (full (entryAt t k .own))) 23 _ λ c.
-      fine-check (suits InvokeWritten o p) 25 _ λ d.
-      fine-fitting room _ (with-own (entryAt t k .own) (entryAt t k .peer) id o (not-of (full (entryAt t k .own)) c) a (peer-of (entryAt t k) (holds-at t k v l))) l
-
-  without-peer : (k : ℕ) (id : ℤ) → valid t ≡ true → k < 14 → entryAt t k .isOpen ≡ true → holds (withoutPeer (entryAt t k) id) ≡ true
-  without-peer k id v l q =
-      let h = holds-at t k v l in
-      rw q (holds-open (entryAt t k .own) (without id (entryAt t k .peer)) (own-of (entryAt t k) h) (one-less waits id (entryAt t k .peer) (peer-of (entryAt t k) h)))
-
-  fine-result : (flag value : ℕ) (id : ℤ) (p : List ℕ) → Fine (sendResult t room flag value id p)
-  unfolding sendResult
-  fine-result flag value id p =
-      fine-check (valid t) 28 _ λ v.
-      fine-transaction flag value _ λ k l q.
-      fine-check (among id (entryAt t k .peer)) 24 _ λ c.
-      fine-check (suits ResultWritten (operationOf id (entryAt t k .peer)) p) 25 _ λ d.
-      fine-fitting room _ (without-peer k id v l q) l
-
-  fine-error : (flag value : ℕ) (id : ℤ) (code : ℕ) (p : List ℕ) → Fine (sendError t room flag value id code p)
-  unfolding sendError
-  fine-error flag value id code p =
-      fine-check (valid t) 28 _ λ v.
-      fine-check (listed code) 20 _ λ a.
-      fine-transaction flag value _ λ k l q.
-      fine-check (among id (entryAt t k .peer)) 24 _ λ c.
-      fine-check (noneOrOne p) 25 _ λ d.
-      fine-fitting room _ (without-peer k id v l q) l
-
-  fine-release : (flag value : ℕ) → Fine (sendRelease t room flag value)
-  unfolding sendRelease
-  fine-release flag value =
-      fine-check (valid t) 28 _ λ v.
-      fine-transaction flag value _ λ k l q.
-      fine-fitting room _ closed-holds l
-
-called-valid : (t b : List ℕ) (f : Sending → ℕ) (o : Answer Sending) → valid t ≡ true → Fine o → valid (called t b f o .table) ≡ true
-called-valid t b f (fault n) v h = v
-called-valid t b f (sound s) v h = valid-with t (s .entry) (s .becomes) v (h .1) (h .0)
+called-valid : (t b : List ℕ) (which : Option ℕ) (f : Sending → ℕ) (o : Answer Sending) → valid t ≡ true → Fine t (length b) which o → valid (called t b f o .table) ≡ true
+called-valid t b which f (fault n) v h = v
+called-valid t b which f (sound s) v h = valid-with t (s .entry) (s .becomes) v (h .below) (h .held)
 
 pub never-damaged : NeverDamaged
 unfolding receive begin invokeWithin result error release
@@ -276,14 +134,14 @@ never-damaged t m b p flag value operation code id v =
     let n = length b in (
       act-valid t m b (decide t m n) v (loud-ready t m n) (decide-holds t m n),
       (
-        called-valid t b (λ s. s .entry) (toBegin t n operation id p) v (fine-begin t n operation id p),
+        called-valid t b (lowestClosed t) (λ s. s .entry) (toBegin t n operation id p) v (fine-begin t n operation id p),
         (
-          called-valid t b noValue (toInvoke t n flag value operation id p) v (fine-invoke t n flag value operation id p),
+          called-valid t b (named flag value) noValue (toInvoke t n flag value operation id p) v (fine-invoke t n flag value operation id p),
           (
-            called-valid t b noValue (sendResult t n flag value id p) v (fine-result t n flag value id p),
+            called-valid t b (named flag value) noValue (sendResult t n flag value id p) v (fine-result t n flag value id p),
             (
-              called-valid t b noValue (sendError t n flag value id code p) v (fine-error t n flag value id code p),
-              called-valid t b noValue (sendRelease t n flag value) v (fine-release t n flag value),
+              called-valid t b (named flag value) noValue (sendError t n flag value id code p) v (fine-error t n flag value id code p),
+              called-valid t b (named flag value) noValue (sendRelease t n flag value) v (fine-release t n flag value),
             ),
           ),
         ),

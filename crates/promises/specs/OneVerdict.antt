@@ -5,14 +5,14 @@ use Prim.Native.Nat.{ℕ, _+_, _*_, _≤_}
 use mathlib.Core.Path.{_≡_}
 use mathlib.Core.List.{List, []}
 use mathlib.Core.Bool.{Bool, true, _||_, _&&_}
-use mathlib.Core.Option.{Option, none}
+use mathlib.Core.Option.{Option, none, some}
 use lib.IntN.{ℤ}
 use lib.ListN.{length, take, drop}
 use lib.Dec.{leb, eqb}
 use Rattle.components.specs.Component.{reject}
 use Rattle.components.specs.Written.{octets}
 use Rattle.messages.specs.Layout.{release, releaseCause, releaseFacility}
-use Rattle.table.specs.Table.{entryAt, closed}
+use Rattle.table.specs.Table.{entryAt, closed, named, lowestClosed}
 use Rattle.deciding.specs.Steps.{entryOf, replyFirst}
 use Rattle.telephone.specs.Outcome.{Outcome, untouched}
 use Rattle.telephone.specs.Receive.{receive}
@@ -55,19 +55,20 @@ EveryMessage = (t m b : List ℕ) → Verdict t m b (receive t m b)
 abbrev pub isRefusal : ℕ → Bool
 isRefusal code = leb 20 code && leb code 28
 
--- a local call is refused and changes nothing, or it writes one message and changes one entry
-pub data Called (t b : List ℕ) (o : Outcome) : Type 0 where
-  refused : isRefusal (o .code) ≡ true → o ≡ untouched t b (o .code) → Called t b o
-  sent : o .code ≡ 0 → (message : List ℕ) → Writes b message o → length message ≤ 255 → (k : ℕ) → ChangesOnly t k o → Called t b o
+-- a local call is refused and changes nothing, or it writes one message and changes the entry that it names and no other
+pub data Called (t b : List ℕ) (names : Option ℕ) (o : Outcome) : Type 0 where
+  refused : isRefusal (o .code) ≡ true → o ≡ untouched t b (o .code) → Called t b names o
+  sent : o .code ≡ 0 → (message : List ℕ) → Writes b message o → length message ≤ 255 → (k : ℕ) → names ≡ some k → ChangesOnly t k o → Called t b names o
 
+-- begin names the lowest closed own value, the others a transaction by its flag and value
 abbrev pub EveryCall : Type 0
 EveryCall =
     (t b p : List ℕ) (flag value operation code : ℕ) (id : ℤ)
-    → Called t b (calls.begin t b operation id p)
-    × (Called t b (calls.invokeWithin t b flag value operation id p)
-    × (Called t b (calls.result t b flag value id p)
-    × (Called t b (calls.error t b flag value id code p)
-    × Called t b (calls.release t b flag value))))
+    → Called t b (lowestClosed t) (calls.begin t b operation id p)
+    × (Called t b (named flag value) (calls.invokeWithin t b flag value operation id p)
+    × (Called t b (named flag value) (calls.result t b flag value id p)
+    × (Called t b (named flag value) (calls.error t b flag value id code p)
+    × Called t b (named flag value) (calls.release t b flag value))))
 
 abbrev pub Demand1 : Type 0
 Demand1 = EveryMessage × EveryCall
