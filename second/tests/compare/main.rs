@@ -9,6 +9,7 @@ mod cases;
 mod chance;
 mod changes;
 mod components;
+mod extent;
 mod images;
 mod later;
 mod messages;

@@ -1,10 +1,9 @@
 //! Every row of up to five octets out of ten, at each place of a message.
 
 use crate::both::{compare, compare_message, Call};
+use crate::extent::longest_row;
 use crate::notation::octets;
 use crate::tables;
-
-const LONGEST: u32 = 5;
 
 /// Octets that make elements, sound and unsound.
 const OF_ELEMENTS: [u8; 10] = [0x00, 0x01, 0x02, 0x04, 0x05, 0x1F, 0x30, 0x80, 0x81, 0x82];
@@ -127,7 +126,7 @@ fn nested(nest: &[(u8, &str)], row: &[u8]) -> Vec<u8> {
 }
 
 fn each_row(alphabet: &[u8; 10], mut run: impl FnMut(&[u8])) {
-    for length in 0..=LONGEST {
+    for length in 0..=longest_row() {
         for number in 0..10usize.pow(length) {
             let digit = |place| alphabet[number / 10usize.pow(place) % 10];
             let row: Vec<u8> = (0..length).map(digit).collect();
