@@ -1,0 +1,4 @@
+pub mod FortyLaws
+mod DecimalLaws
+mod FoldLaws
+mod JoinLaws

@@ -1,0 +1,3 @@
+// Text for a display of forty cells, written into a lent page.
+pub mod lines;
+pub mod numbers;

@@ -1,0 +1,6 @@
+mod WordLaws
+mod NumberLaws
+mod PlaceLaws
+mod HexLaws
+mod VerbLaws
+mod CommandLaws

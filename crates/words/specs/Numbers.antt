@@ -1,0 +1,57 @@
+-- "words and decimal numbers": "FLAG, VALUE, OPERATION and CODE are 0 to 255, ID is -128 to 127."
+use Prim.Native.Nat.{ℕ, _+_, _*_, _-_, _%_, _≤_}
+use mathlib.Core.List.{List, [], _∷_}
+use mathlib.Core.Bool.{Bool, cond, _&&_}
+use lib.IntN.{ℤ}
+use lib.Dec.{eqb, leb}
+use Rattle.codes.specs.Ids.{idOf}
+use Rattle.words.specs.Words.{wordAt, spelled}
+use Rattle.words.specs.declared.Word.{Word}
+use Rattle.words.specs.declared.Number.{Number}
+use Rattle.words.specs.declared.Number.the-variants.{Nothing, Is}
+use Rattle.words.specs.declared.OctetAt.{OctetAt}
+use Rattle.words.specs.declared.OctetAt.the-variants.{NoOctet, OctetIs}
+use Rattle.words.specs.declared.IdAt.{IdAt}
+use Rattle.words.specs.declared.IdAt.the-variants.{NoId, IdIs}
+
+abbrev pub digit : ℕ → Bool
+digit c = leb 48 c && leb c 57
+
+-- digits from left to right, n so far; a number that passes the most is none
+unfoldable pub numberFrom : ℕ → ℕ → List ℕ → Number
+numberFrom most n [] = Is n
+numberFrom most n (c ∷ s) = cond (digit c && leb (n * 10 + (c - 48)) most) (numberFrom most (n * 10 + (c - 48)) s) Nothing
+
+-- at least one digit
+unfoldable pub number : ℕ → List ℕ → Number
+number most [] = Nothing
+number most (c ∷ s) = numberFrom most 0 (c ∷ s)
+
+abbrev pub AtMost : ℕ → Number → Type 0
+AtMost most Nothing = Unit {0}
+AtMost most (Is n) = n ≤ most
+
+-- the octet of a number that stands behind a minus, two's complement
+abbrev pub negative : Number → Number
+negative Nothing = Nothing
+negative (Is n) = Is ((256 - n) % 256)
+
+-- the octet of an id
+unfoldable pub signed : List ℕ → Number
+signed [] = Nothing
+signed (c ∷ s) = cond (eqb c 45) (negative (number 128 s)) (number 127 (c ∷ s))
+
+abbrev pub octetIn : ℕ → Number → OctetAt
+octetIn next Nothing = NoOctet
+octetIn next (Is n) = OctetIs n next
+
+abbrev pub idIn : ℕ → Number → IdAt
+idIn next Nothing = NoId
+idIn next (Is n) = IdIs (idOf n) next
+
+-- the next word from a place on as a number, and the place behind it
+unfoldable pub octetAt : List ℕ → ℕ → OctetAt
+octetAt s at = octetIn (wordAt s at .end) (number 255 (spelled s (wordAt s at)))
+
+unfoldable pub idAt : List ℕ → ℕ → IdAt
+idAt s at = idIn (wordAt s at .end) (signed (spelled s (wordAt s at)))
