@@ -1,17 +1,17 @@
 -- What the code's proofs cite: the tests of an entry and of the image, the named entry, the scan for a closed value.
 use mathlib.Core.Path.{_≡_, refl, ap}
-use mathlib.Core.Bool.{Bool, true, false, cond, _&&_}
+use mathlib.Core.Bool.{Bool, true, false, cond, _&&_, false≢true}
 use mathlib.Core.List.{List}
 use mathlib.Core.Option.{none, some}
-use Prim.Native.Nat.{ℕ, suc, _+_, _*_, _-_, _<_, _≤_}
+use Prim.Native.Nat.{ℕ, zero, suc, _+_, _*_, _-_, _<_, _≤_}
 use native.Mathlib.Nat.{le-antisymm}
 use native.Mathlib.Numerals.{add-one}
 use native.Mathlib.Omega.{arith}
-use borrow.Author.Tests.{eq-eqb, ne-eqb, le-leb, lt-leb}
+use borrow.Author.Tests.{eqb-true, eqb-false, eq-eqb, ne-eqb, le-leb, lt-leb}
 use lib.Dec.{eqb}
 use lib.ListN.{length, getD}
 use Rattle.codes.specs.Operations.{begins, waits}
-use Rattle.table.specs.Table.{size, named, hasOwn, hasPeer, Image, imageAt, soundIn, soundState, soundImage, entryOf, entryAt, soundEntries, valid, lowestFrom}
+use Rattle.table.specs.Table.{size, named, hasOwn, hasPeer, Image, imageAt, soundIn, soundState, soundImage, entryOf, entryAt, soundEntries, zeros, valid, lowestFrom}
 
 side : (used : Bool) (listed : ℕ → Bool) (id operation : ℕ)
     → cond used (listed operation) (eqb id 0 && eqb operation 0) ≡ soundIn used listed id operation
@@ -45,6 +45,35 @@ other-length t n = rw (ne-eqb (length t) 70 n)
 pub all-seen : (t : List ℕ) (k : ℕ) → length t ≡ 70 → k ≤ 14 → 14 ≤ k → soundEntries t k ≡ valid t
 unfolding valid
 all-seen t k e l g = rw (eq-eqb (length t) 70 e) (ap (soundEntries t) (le-antisymm l g))
+
+-- an image of zeros: every octet is 0, so every entry is sound
+both : {A : Type 0} (a b : Bool) → (a && b) ≡ true → (a ≡ true → b ≡ true → A) → A
+both true b e k = k refl e
+both false b e k = absurd (false≢true e)
+
+at-or-below : (t : List ℕ) (n k : ℕ) (b : Bool) → eqb k n ≡ b → k < suc n → eqb (getD t n 0) 0 ≡ true → (k < n → getD t k 0 ≡ 0) → getD t k 0 ≡ 0
+at-or-below t n k true s h q below = rw (eqb-true k n s) (eqb-true (getD t n 0) 0 q)
+at-or-below t n k false s h q below = let d = eqb-false k n s in below (omega (arith, d))
+
+zero-at : (t : List ℕ) (n k : ℕ) → zeros t n ≡ true → k < n → getD t k 0 ≡ 0
+unfolding zeros
+zero-at t zero k e h = absurd (omega arith)
+zero-at t (suc n) k e h = both (zeros t n) (eqb (getD t n 0) 0) e λ p q. at-or-below t n k (eqb k n) refl h q (λ l. zero-at t n k p l)
+
+zero-image : (t : List ℕ) (k : ℕ) → zeros t 70 ≡ true → k < 14 → soundImage (imageAt t k) ≡ true
+unfolding soundImage
+zero-image t k e h =
+    let z : (i : ℕ) → i < 70 → getD t i 0 ≡ 0 = λ i l. zero-at t 70 i e l in
+    rw (z (size * k) (omega arith), z (size * k + 1) (omega arith), z (size * k + 2) (omega arith), z (size * k + 3) (omega arith), z (size * k + 4) (omega arith))
+
+zero-entries : (t : List ℕ) (k : ℕ) → zeros t 70 ≡ true → k ≤ 14 → soundEntries t k ≡ true
+unfolding soundEntries
+zero-entries t zero e h = refl
+zero-entries t (suc k) e h = rw (zero-entries t k e (omega arith), zero-image t k e (omega arith))
+
+pub fresh-is : (t : List ℕ) → length t ≡ 70 → zeros t (length t) ≡ true → true ≡ valid t
+unfolding valid
+fresh-is t l e = rw (eq-eqb (length t) 70 l, zero-entries t 14 (rw l at e) (omega arith))
 
 -- the entry that a flag and a value name
 module _ (flag value : ℕ) where

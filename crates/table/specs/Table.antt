@@ -101,6 +101,11 @@ unfoldable pub soundEntries : List ℕ → ℕ → Bool
 soundEntries table zero = true
 soundEntries table (suc n) = soundEntries table n && soundImage (imageAt table n)
 
+-- the first n octets are 0, as at the start
+unfoldable pub zeros : List ℕ → ℕ → Bool
+zeros table zero = true
+zeros table (suc n) = zeros table n && eqb (getD table n 0) 0
+
 -- "Any other image is damaged."
 unfoldable pub valid : List ℕ → Bool
 valid table = eqb (length table) imageLength && soundEntries table entries

@@ -1,10 +1,12 @@
 use borrow.Author.Needs.{needs}
 use native.Mathlib.Omega.{arith}
 use native.Mathlib.Numerals.{add-one}
-use mathlib.Core.Path.{_≡_, refl, _∙_}
+use mathlib.Core.Bool.{true}
+use mathlib.Core.Path.{_≡_, refl, sym, _∙_}
 use Prim.Native.Nat.{_≤_, _-_}
-use Rattle.table.specs.Table.{soundEntries}
-use Rattle.table.proofs.Steps.{other-length, all-seen}
+use lib.ListN.{length}
+use Rattle.table.specs.Table.{soundEntries, zeros}
+use Rattle.table.proofs.Steps.{other-length, fresh-is, all-seen}
 use Rattle.table.proofs.is_valid.Statement.{statement}
 use Rattle.table.proofs.is_valid.Tie as tie
 use Rattle.table.proofs.is_valid.Reads as reads
@@ -19,6 +21,15 @@ abbrev μ-loop : tie.MeasureT-loop
 
 returns : tie.Need-returns Inv-loop μ-loop
 returns c = other-length (c .before .before .args .table .now) (c .if1 .taken)
+
+is-fresh-requires : tie.Need-is-fresh-requires Inv-loop μ-loop
+is-fresh-requires c κs = search needs
+
+returns-2 : tie.Need-returns-2 Inv-loop μ-loop
+returns-2 c =
+    let t = c .before .before .before .before .args .table .now in
+    let zero : zeros t (length t) ≡ true = sym (c .before .is-fresh .ensures) ∙ c .if2 .taken in
+    fresh-is t (c .before .before .if1 .left) zero
 
 loop-holds : tie.Need-loop-holds Inv-loop μ-loop
 unfolding soundEntries
@@ -37,8 +48,11 @@ loop-again : tie.Need-loop-again Inv-loop μ-loop
 unfolding soundEntries
 loop-again c = (omega arith, rw (add-one, c .is-sound .ensures, c .before .before .loop .inv .1))
 
-returns-2 : tie.Need-returns-2 Inv-loop μ-loop
-returns-2 c = c .before .loop .inv .1 ∙ all-seen (c .before .before .before .before .args .table .now) (c .before .loop .k) (c .before .before .if1 .left) (c .before .loop .inv .0) (c .loop-test .left)
+returns-3 : tie.Need-returns-3 Inv-loop μ-loop
+returns-3 c =
+    let t = c .before .before .before .before .before .before .args .table .now in
+    let long : length t ≡ 70 = c .before .before .before .before .if1 .left in
+    c .before .loop .inv .1 ∙ all-seen t (c .before .loop .k) long (c .before .loop .inv .0) (c .loop-test .left)
 
 pub is-valid-spec : {M : Type 1} → statement M
 is-valid-spec =
@@ -47,9 +61,11 @@ is-valid-spec =
     Inv-loop
     μ-loop
     returns
+    is-fresh-requires
+    returns-2
     loop-holds
     is-sound-requires
     add-k
     loop-less
     loop-again
-    returns-2)
+    returns-3)
