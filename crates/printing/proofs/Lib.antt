@@ -1,4 +1,4 @@
 pub mod FortyLaws
 mod DecimalLaws
 mod FoldLaws
-mod JoinLaws
+pub mod JoinLaws

@@ -1,0 +1,3 @@
+pub mod FortyLaws
+mod VerdictLaws
+mod RowLaws

@@ -1,0 +1,75 @@
+-- What is printed of a received message and of a call, line by line.
+use Prim.Native.Nat.{ℕ}
+use mathlib.Core.List.{List, [], _∷_, _++_}
+use mathlib.Core.Bool.{Bool, cond, not, _&&_}
+use lib.ListN.{take}
+use lib.Dec.{eqb, ltb}
+use Rattle.octets.specs.Part.{between}
+use Rattle.printing.specs.Lines.{when, octetsLine, numberLine, idLine, problemLine}
+use Rattle.components.specs.Component.{invokeTag, resultTag, errorTag, rejectTag}
+use Rattle.showing.specs.declared.Span.{Span}
+use Rattle.showing.specs.declared.ComponentView.{ComponentView}
+use Rattle.showing.specs.declared.TextView.{TextView}
+use Rattle.showing.specs.declared.CauseView.{CauseView}
+use Rattle.telephone.specs.declared.receive.Received.{Received}
+use Rattle.telephone.specs.declared.calls.Called.{Called}
+use Rattle.reports.specs.Words.{invokeWord, resultWord, errorWord, rejectWord, rejectNone, linkedWord, operationWord, codeWord, parameterWord, schemeWord, stringWord, tailWord, causeWord, replyWord, messageWord, valueWord, verdictLine, doneOrRefused}
+
+abbrev pub cut : List ℕ → Span → List ℕ
+cut m span = between (span .start) (span .end) m
+
+-- "`invoke 5`, `result 1`, `error 1`, `reject 5` or `reject none`"
+unfoldable pub kindLines : ComponentView → List ℕ
+kindLines v =
+    when (eqb (v .kind) invokeTag) (idLine invokeWord (v .id))
+    ++ when (eqb (v .kind) resultTag) (idLine resultWord (v .id))
+    ++ when (eqb (v .kind) errorTag) (idLine errorWord (v .id))
+    ++ when (eqb (v .kind) rejectTag && v .«has_id») (idLine rejectWord (v .id))
+    ++ when (eqb (v .kind) rejectTag && not (v .«has_id»)) rejectNone
+
+-- "`linked -3`; `operation 60`; `code 17`; `problem 81 0`"
+unfoldable pub numberLines : ComponentView → List ℕ
+numberLines v =
+    when (v .«has_linked») (idLine linkedWord (v .linked))
+    ++ when (v .«has_operation») (numberLine operationWord (v .operation))
+    ++ when (eqb (v .kind) errorTag) (numberLine codeWord (v .code))
+    ++ when (eqb (v .kind) rejectTag) (problemLine (v .tag) (v .problem))
+
+-- "`parameter 30 06 ..`"
+unfoldable pub parameterLine : List ℕ → ComponentView → List ℕ
+parameterLine m v = when (ltb (v .parameter .start) (v .parameter .end)) (octetsLine parameterWord (cut m (v .parameter)))
+
+-- "`scheme 0F`, `string 41`, `tail 04 01 02`"
+unfoldable pub textLines : List ℕ → TextView → List ℕ
+textLines m t =
+    when (t .«is_there») (octetsLine schemeWord (t .scheme ∷ []))
+    ++ when (t .«is_there») (octetsLine stringWord (cut m (t .string)))
+    ++ when (t .«is_there») (octetsLine tailWord (cut m (t .tail)))
+
+-- "`cause E0 9D`"
+unfoldable pub causeLine : List ℕ → CauseView → List ℕ
+causeLine m c = when (c .«is_there») (octetsLine causeWord (cut m (c .contents)))
+
+-- "`reply 8B 2A ..` or, for a call, `message 0B 3B ..`"
+unfoldable pub writtenLine : List ℕ → ℕ → List ℕ → List ℕ
+writtenLine word written buffer = when (ltb 0 written) (octetsLine word (take written buffer))
+
+-- the lines in their order, "and then an empty line"
+unfoldable pub receivedText : List ℕ → List ℕ → Received → List ℕ
+receivedText m reply r =
+    verdictLine (r .code)
+    ++ kindLines (r .shown)
+    ++ numberLines (r .shown)
+    ++ parameterLine m (r .shown)
+    ++ textLines m (r .text)
+    ++ causeLine m (r .cause)
+    ++ writtenLine replyWord (r .written) reply
+    ++ (10 ∷ [])
+
+-- "`value 3` (begin)"
+unfoldable pub calledText : Bool → List ℕ → Called → List ℕ
+calledText begins buffer c =
+    doneOrRefused (c .code)
+    ++ when (begins && eqb (c .code) 0) (numberLine valueWord (c .value))
+    ++ writtenLine messageWord (c .written) buffer
+    ++ (10 ∷ [])

@@ -1,0 +1,3 @@
+// What is printed of a received message and of a call, written into a lent page.
+pub mod shown;
+mod verdicts;
