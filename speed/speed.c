@@ -113,10 +113,10 @@ static void both(const char *name, size_t n)
 
 int main(int argc, char **argv)
 {
-    if (argc > 1) { /* for counting instructions: so many calls of one kind */
-        make_menu((size_t)atoi(argv[1]), argc > 2 ? (size_t)atoi(argv[2]) : 0);
-        for (int i = 0; i < 1000; i++) receive();
-        return kept == 0;
+    if (argc > 2) { /* for counting instructions: so many calls of one kind */
+        make_menu((size_t)atoi(argv[2]), argc > 3 ? (size_t)atoi(argv[3]) : 0);
+        for (int i = 0; i < atoi(argv[1]); i++) receive();
+        return 0;
     }
     both("W1", 1);
     both("string of 114", 114);

@@ -1,6 +1,6 @@
 -- The contract leaves one answer: two decisions that say the same of a message, and lie within it, are equal.
 use Prim.Native.Nat.{ℕ, _≤_}
-use mathlib.Core.Path.{_≡_, refl, ap}
+use mathlib.Core.Path.{_≡_, refl, sym, ap, _∙_}
 use mathlib.Core.List.{List, []}
 use mathlib.Core.Option.{Option, some}
 use native.Mathlib.Omega.{arith}
@@ -19,8 +19,9 @@ use Rattle.messages.proofs.Determined.{part-determined}
 use Rattle.table.specs.Table.{Entry}
 use Rattle.table.proofs.Determined.{slot-determined}
 use Rattle.deciding.specs.Decision.{Shows, withReject, onReject, released, taken}
-use Rattle.deciding.specs.Seen.{toldSeen, ToldWithin, decisionSeen, DecisionWithin}
+use Rattle.deciding.specs.Seen.{toldSeen, ToldWithin, actSeen, ActWithin, decisionSeen, DecisionWithin}
 use Rattle.deciding.specs.declared.Told.{Told}
+use Rattle.deciding.specs.declared.Act.{Act}
 use Rattle.deciding.specs.declared.Decision.{Decision}
 
 -- an id and a component are parts of a reading
@@ -63,51 +64,53 @@ released-inj e = (cc, cc)
 taken-inj : {z w : Entry} {a b : Shows} → taken z a ≡ taken w b → (z ≡ w) × (a ≡ b)
 taken-inj e = (cc, cc)
 
-pub decision-determined : (s : List ℕ) (r q : Decision) → DecisionWithin s r → DecisionWithin s q → decisionSeen s r ≡ decisionSeen s q → r ≡ q
-decision-determined s (Decision.Silent n) (Decision.Silent m) a b e = cc
-decision-determined s (Decision.Silent n) (Decision.WithCause m) a b e = cc
-decision-determined s (Decision.Silent n) (Decision.WithReject j u m) a b e = cc
-decision-determined s (Decision.Silent n) (Decision.OnReject y) a b e = cc
-decision-determined s (Decision.Silent n) (Decision.Released y o) a b e = cc
-decision-determined s (Decision.Silent n) (Decision.Taken w y) a b e = cc
-decision-determined s (Decision.WithCause n) (Decision.Silent m) a b e = cc
-decision-determined s (Decision.WithCause n) (Decision.WithCause m) a b e = cc
-decision-determined s (Decision.WithCause n) (Decision.WithReject j u m) a b e = cc
-decision-determined s (Decision.WithCause n) (Decision.OnReject y) a b e = cc
-decision-determined s (Decision.WithCause n) (Decision.Released y o) a b e = cc
-decision-determined s (Decision.WithCause n) (Decision.Taken w y) a b e = cc
-decision-determined s (Decision.WithReject i t n) (Decision.Silent m) a b e = cc
-decision-determined s (Decision.WithReject i t n) (Decision.WithCause m) a b e = cc
-decision-determined s (Decision.WithReject i t n) (Decision.WithReject j u m) a b e =
+act-determined : (s : List ℕ) (x y : Told) (a b : Act) → ActWithin s a x → ActWithin s b y → actSeen s a (toldSeen s x) ≡ actSeen s b (toldSeen s y)
+    → ToldWithin s x → ToldWithin s y → (a ≡ b) × (x ≡ y)
+act-determined s x y (Act.Silent n) (Act.Silent m) h k e c d = (cc, h ∙ sym k)
+act-determined s x y (Act.Silent n) (Act.WithCause m) h k e c d = (cc, cc)
+act-determined s x y (Act.Silent n) (Act.WithReject j u m) h k e c d = (cc, cc)
+act-determined s x y (Act.Silent n) Act.OnReject h k e c d = (cc, cc)
+act-determined s x y (Act.Silent n) (Act.Released o) h k e c d = (cc, cc)
+act-determined s x y (Act.Silent n) (Act.Taken w) h k e c d = (cc, cc)
+act-determined s x y (Act.WithCause n) (Act.Silent m) h k e c d = (cc, cc)
+act-determined s x y (Act.WithCause n) (Act.WithCause m) h k e c d = (cc, h .0 ∙ sym (k .0))
+act-determined s x y (Act.WithCause n) (Act.WithReject j u m) h k e c d = (cc, cc)
+act-determined s x y (Act.WithCause n) Act.OnReject h k e c d = (cc, cc)
+act-determined s x y (Act.WithCause n) (Act.Released o) h k e c d = (cc, cc)
+act-determined s x y (Act.WithCause n) (Act.Taken w) h k e c d = (cc, cc)
+act-determined s x y (Act.WithReject i t n) (Act.Silent m) h k e c d = (cc, cc)
+act-determined s x y (Act.WithReject i t n) (Act.WithCause m) h k e c d = (cc, cc)
+act-determined s x y (Act.WithReject i t n) (Act.WithReject j u m) h k e c d =
     let f = reject-inj e in
     let g = id-determined i j (f .0) in
-    λ k. Decision.WithReject (g k) (f .1 k) (f .2 k)
-decision-determined s (Decision.WithReject i t n) (Decision.OnReject y) a b e = cc
-decision-determined s (Decision.WithReject i t n) (Decision.Released y o) a b e = cc
-decision-determined s (Decision.WithReject i t n) (Decision.Taken w y) a b e = cc
-decision-determined s (Decision.OnReject x) (Decision.Silent m) a b e = cc
-decision-determined s (Decision.OnReject x) (Decision.WithCause m) a b e = cc
-decision-determined s (Decision.OnReject x) (Decision.WithReject j u m) a b e = cc
-decision-determined s (Decision.OnReject x) (Decision.OnReject y) a b e = ap Decision.OnReject (told-determined s x y a b (on-inj e))
-decision-determined s (Decision.OnReject x) (Decision.Released y o) a b e = cc
-decision-determined s (Decision.OnReject x) (Decision.Taken w y) a b e = cc
-decision-determined s (Decision.Released x p) (Decision.Silent m) a b e = cc
-decision-determined s (Decision.Released x p) (Decision.WithCause m) a b e = cc
-decision-determined s (Decision.Released x p) (Decision.WithReject j u m) a b e = cc
-decision-determined s (Decision.Released x p) (Decision.OnReject y) a b e = cc
-decision-determined s (Decision.Released x p) (Decision.Released y o) a b e =
+    ((λ l. Act.WithReject (g l) (f .1 l) (f .2 l)), h ∙ sym k)
+act-determined s x y (Act.WithReject i t n) Act.OnReject h k e c d = (cc, cc)
+act-determined s x y (Act.WithReject i t n) (Act.Released o) h k e c d = (cc, cc)
+act-determined s x y (Act.WithReject i t n) (Act.Taken w) h k e c d = (cc, cc)
+act-determined s x y Act.OnReject (Act.Silent m) h k e c d = (cc, cc)
+act-determined s x y Act.OnReject (Act.WithCause m) h k e c d = (cc, cc)
+act-determined s x y Act.OnReject (Act.WithReject j u m) h k e c d = (cc, cc)
+act-determined s x y Act.OnReject Act.OnReject h k e c d = (refl, told-determined s x y c d (on-inj e))
+act-determined s x y Act.OnReject (Act.Released o) h k e c d = (cc, cc)
+act-determined s x y Act.OnReject (Act.Taken w) h k e c d = (cc, cc)
+act-determined s x y (Act.Released p) (Act.Silent m) h k e c d = (cc, cc)
+act-determined s x y (Act.Released p) (Act.WithCause m) h k e c d = (cc, cc)
+act-determined s x y (Act.Released p) (Act.WithReject j u m) h k e c d = (cc, cc)
+act-determined s x y (Act.Released p) Act.OnReject h k e c d = (cc, cc)
+act-determined s x y (Act.Released p) (Act.Released o) h k e c d =
     let f = released-inj e in
-    let g = told-determined s x y (a .0) (b .0) (f .0) in
-    let h = part-determined s p o (a .1) (b .1) (f .1) in
-    λ k. Decision.Released (g k) (h k)
-decision-determined s (Decision.Released x p) (Decision.Taken w y) a b e = cc
-decision-determined s (Decision.Taken z x) (Decision.Silent m) a b e = cc
-decision-determined s (Decision.Taken z x) (Decision.WithCause m) a b e = cc
-decision-determined s (Decision.Taken z x) (Decision.WithReject j u m) a b e = cc
-decision-determined s (Decision.Taken z x) (Decision.OnReject y) a b e = cc
-decision-determined s (Decision.Taken z x) (Decision.Released y o) a b e = cc
-decision-determined s (Decision.Taken z x) (Decision.Taken w y) a b e =
+    (ap Act.Released (part-determined s p o h k (f .1)), told-determined s x y c d (f .0))
+act-determined s x y (Act.Released p) (Act.Taken w) h k e c d = (cc, cc)
+act-determined s x y (Act.Taken z) (Act.Silent m) h k e c d = (cc, cc)
+act-determined s x y (Act.Taken z) (Act.WithCause m) h k e c d = (cc, cc)
+act-determined s x y (Act.Taken z) (Act.WithReject j u m) h k e c d = (cc, cc)
+act-determined s x y (Act.Taken z) Act.OnReject h k e c d = (cc, cc)
+act-determined s x y (Act.Taken z) (Act.Released o) h k e c d = (cc, cc)
+act-determined s x y (Act.Taken z) (Act.Taken w) h k e c d =
     let f = taken-inj e in
-    let g = slot-determined z w (f .0) in
-    let h = told-determined s x y a b (f .1) in
-    λ k. Decision.Taken (g k) (h k)
+    (ap Act.Taken (slot-determined z w (f .0)), told-determined s x y c d (f .1))
+
+pub decision-determined : (s : List ℕ) (r q : Decision) → DecisionWithin s r → DecisionWithin s q → decisionSeen s r ≡ decisionSeen s q → r ≡ q
+decision-determined s r q a b e =
+    let f = act-determined s (r .told) (q .told) (r .act) (q .act) (a .1) (b .1) e (a .0) (b .0) in
+    λ i. record { act = f .0 i; told = f .1 i }

@@ -32,7 +32,10 @@ use Rattle.table.proofs.TableLaws.{valid-each}
 use Rattle.judging.specs.StepSix.{Judged, judgeInvoke, judgeResult, judgeError}
 use Rattle.deciding.specs.Decision.{Decision, Shows, silent, withCause, withReject, onReject, released, taken, shownBy}
 use Rattle.deciding.specs.Steps.{shown, onJudged, stepSix, opened, stepFive, stepFour, exceptInvoke, onRelease, byType, stepTwo, firstOf, entryOf, replyFirst, decide}
-use Rattle.deciding.specs.Seen.{Ready}
+use Rattle.deciding.specs.Seen.{toldSeen, actSeen, ActWithin, decisionSeen, DecisionWithin, fromEntry, Ready}
+use Rattle.deciding.specs.declared.Told.{Told}
+use Rattle.deciding.specs.declared.Act.{Act}
+use Rattle.deciding.specs.declared.Decision.{Decision as Made}
 
 -- the component shown of a part is shown of what goes up to its end
 pub shown-part : (r : Shown) (s : List ℕ) (a e : ℕ) → a ≤ e → e ≤ length s → parameterLength r ≤ length (between a e s)
@@ -112,6 +115,18 @@ module _ (e : Entry) (s : List ℕ) (cause : Option (Taken (List ℕ))) (q : cau
   unfolding onRelease
   release-shown v rest t f j = rw (q, j, ← f)
 
+-- where a case shows nothing, nothing is told
+act-told : (s : List ℕ) (a : Act) (told : Told) → ActWithin s a told → toldSeen s told ≡ shownBy (actSeen s a (toldSeen s told))
+act-told s (Act.Silent code) told h = rw h
+act-told s (Act.WithCause number) told h = rw (h .0)
+act-told s (Act.WithReject id tag number) told h = rw h
+act-told s Act.OnReject told h = refl
+act-told s (Act.Released cause) told h = refl
+act-told s (Act.Taken slot) told h = refl
+
+pub shown-told : (s : List ℕ) (d : Made) → DecisionWithin s d → toldSeen s (d .told) ≡ shownBy (decisionSeen s d)
+shown-told s d h = act-told s (d .act) (d .told) (h .1)
+
 -- steps 2 and 3, by the type that the octet tells
 module _ (e : Entry) (flag kind : ℕ) (s : List ℕ) where
   pub two-of : (t : MessageType) → t ≡ typeOf kind → byType e flag t s ≡ stepTwo e flag kind s
@@ -165,7 +180,20 @@ module _ (m : List ℕ) (first v f : ℕ) (q : first ≡ firstOf m) (x : v ≡ v
 pub not-silent : {A : Type 0} → true ≡ false → A
 not-silent e = absurd (false≢true (sym e))
 
--- 28, 27 and the steps up to the type
+-- step 2, up to the type
+module _ (t m : List ℕ) where
+  pub value-seven : value (firstOf m) ≡ 7 → silent 1 ≡ fromEntry t m
+  value-seven w = rw (eq-eqb (value (firstOf m)) 7 w)
+
+  module _ (w : value (firstOf m) ≡ 7 → ⊥) where
+    pub picked : (e : Entry) (k f : ℕ) → k ≡ entryOf m → e ≡ entryAt t k → f ≡ flag (firstOf m)
+        → stepTwo e f (getD m 1 0) (drop 2 m) ≡ fromEntry t m
+    picked e k f a b c = rw (ne-eqb (value (firstOf m)) 7 w, b, a, c)
+
+    pub value-least : value (firstOf m) < 7
+    value-least = omega arith
+
+-- 28, 27 and step 1
 module _ (t m : List ℕ) (room : ℕ) where
   pub damaged : valid t ≡ false → silent 28 ≡ decide t m room
   unfolding decide
@@ -192,15 +220,9 @@ module _ (t m : List ℕ) (room : ℕ) where
           other-protocol d = rw (v, le-ltb room 12 r, le-ltb 255 (length m) l, le-ltb (length m) 2 n, ne-eqb (discriminator (firstOf m)) 11 d)
 
           module _ (d : discriminator (firstOf m) ≡ 11) where
-            pub value-seven : value (firstOf m) ≡ 7 → silent 1 ≡ decide t m room
+            pub goes-on : fromEntry t m ≡ decide t m room
             unfolding decide
-            value-seven w = rw (v, le-ltb room 12 r, le-ltb 255 (length m) l, le-ltb (length m) 2 n, eq-eqb (discriminator (firstOf m)) 11 d, eq-eqb (value (firstOf m)) 7 w)
+            goes-on = rw (v, le-ltb room 12 r, le-ltb 255 (length m) l, le-ltb (length m) 2 n, eq-eqb (discriminator (firstOf m)) 11 d)
 
-            module _ (w : value (firstOf m) ≡ 7 → ⊥) where
-              pub goes-on : (e : Entry) (k f : ℕ) → k ≡ entryOf m → e ≡ entryAt t k → f ≡ flag (firstOf m)
-                  → stepTwo e f (getD m 1 0) (drop 2 m) ≡ decide t m room
-              unfolding decide
-              goes-on e k f a b c = rw (v, le-ltb room 12 r, le-ltb 255 (length m) l, le-ltb (length m) 2 n, eq-eqb (discriminator (firstOf m)) 11 d, ne-eqb (value (firstOf m)) 7 w, b, a, c)
-
-              pub ready : Ready t m room
-              ready = (valid-each t v .0, (r, (n, omega arith)))
+            pub ready : value (firstOf m) < 7 → Ready t m room
+            ready w = (valid-each t v .0, (r, (n, w)))

@@ -2,21 +2,23 @@
 use Prim.Native.Nat.{ℕ, _≤_, _<_}
 use mathlib.Core.Path.{_≡_}
 use mathlib.Core.List.{List}
-use mathlib.Core.Bool.{Bool, true, false}
+use mathlib.Core.Bool.{Bool, true, false, cond}
 use mathlib.Core.Option.{Option, none, some}
-use lib.ListN.{length, take, drop}
+use lib.ListN.{length, getD, take, drop}
+use lib.Dec.{eqb}
 use Rattle.octets.specs.Reader.{Taken}
 use Rattle.places.specs.Seen.{idSeen}
 use Rattle.components.specs.Component.{Component}
 use Rattle.components.specs.Seen.{shownSeen, parameterLength}
-use Rattle.messages.specs.Layout.{value}
+use Rattle.messages.specs.Layout.{value, flag}
 use Rattle.messages.specs.Seen.{partSeen, PartWithin}
-use Rattle.table.specs.Table.{imageLength}
+use Rattle.table.specs.Table.{imageLength, entryAt}
 use Rattle.table.specs.Seen.{slotSeen}
 use Rattle.deciding.specs.Decision.{Shows, silent, withCause, withReject, onReject, released, taken}
 use Rattle.deciding.specs.Decision as spec
-use Rattle.deciding.specs.Steps.{firstOf}
+use Rattle.deciding.specs.Steps.{stepTwo, firstOf, entryOf}
 use Rattle.deciding.specs.declared.Told.{Told}
+use Rattle.deciding.specs.declared.Act.{Act}
 use Rattle.deciding.specs.declared.Decision.{Decision}
 
 abbrev pub toldSeen : List ℕ → Told → Shows
@@ -27,30 +29,49 @@ abbrev pub ToldWithin : List ℕ → Told → Type 0
 ToldWithin s Told.Nothing = Unit {0}
 ToldWithin s (Told.Is shown end) = (parameterLength shown ≤ end) × (end ≤ length s)
 
+abbrev pub actSeen : List ℕ → Act → Shows → spec.Decision
+actSeen s (Act.Silent code) shown = silent code
+actSeen s (Act.WithCause number) shown = withCause number
+actSeen s (Act.WithReject id tag number) shown = withReject (idSeen id) tag number
+actSeen s Act.OnReject shown = onReject shown
+actSeen s (Act.Released cause) shown = released shown (partSeen s cause)
+actSeen s (Act.Taken slot) shown = taken (slotSeen slot) shown
+
 abbrev pub decisionSeen : List ℕ → Decision → spec.Decision
-decisionSeen s (Decision.Silent code) = silent code
-decisionSeen s (Decision.WithCause number) = withCause number
-decisionSeen s (Decision.WithReject id tag number) = withReject (idSeen id) tag number
-decisionSeen s (Decision.OnReject told) = onReject (toldSeen s told)
-decisionSeen s (Decision.Released told cause) = released (toldSeen s told) (partSeen s cause)
-decisionSeen s (Decision.Taken slot told) = taken (slotSeen slot) (toldSeen s told)
+decisionSeen s d = actSeen s (d .act) (toldSeen s (d .told))
+
+-- where a case shows nothing, nothing is told
+abbrev pub ActWithin : List ℕ → Act → Told → Type 0
+ActWithin s (Act.Silent code) told = told ≡ Told.Nothing
+ActWithin s (Act.WithCause number) told = (told ≡ Told.Nothing) × (number < 128)
+ActWithin s (Act.WithReject id tag number) told = told ≡ Told.Nothing
+ActWithin s Act.OnReject told = Unit {0}
+ActWithin s (Act.Released cause) told = PartWithin s cause
+ActWithin s (Act.Taken slot) told = Unit {0}
 
 abbrev pub DecisionWithin : List ℕ → Decision → Type 0
-DecisionWithin s (Decision.Silent code) = Unit {0}
-DecisionWithin s (Decision.WithCause number) = number < 128
-DecisionWithin s (Decision.WithReject id tag number) = Unit {0}
-DecisionWithin s (Decision.OnReject told) = ToldWithin s told
-DecisionWithin s (Decision.Released told cause) = ToldWithin s told × PartWithin s cause
-DecisionWithin s (Decision.Taken slot told) = ToldWithin s told
+DecisionWithin s d = ToldWithin s (d .told) × ActWithin s (d .act) (d .told)
+
+abbrev pub showsNothing : Act → Decision
+showsNothing act = record { act = act; told = Told.Nothing }
 
 -- nothing is sent and nothing changes
+abbrev pub actsNot : Act → Bool
+actsNot (Act.Silent code) = true
+actsNot (Act.WithCause number) = false
+actsNot (Act.WithReject id tag number) = false
+actsNot Act.OnReject = false
+actsNot (Act.Released cause) = false
+actsNot (Act.Taken slot) = false
+
 abbrev pub isSilent : Decision → Bool
-isSilent (Decision.Silent code) = true
-isSilent (Decision.WithCause number) = false
-isSilent (Decision.WithReject id tag number) = false
-isSilent (Decision.OnReject told) = false
-isSilent (Decision.Released told cause) = false
-isSilent (Decision.Taken slot told) = false
+isSilent d = actsNot (d .act)
+
+-- step 2 of a whole message, as it stands in `decide`
+abbrev pub fromEntry : List ℕ → List ℕ → spec.Decision
+fromEntry table m =
+    cond (eqb (value (firstOf m)) 7) (silent 1)
+    (stepTwo (entryAt table (entryOf m)) (flag (firstOf m)) (getD m 1 0) (drop 2 m))
 
 -- whoever acts otherwise finds an image of full length, room for any reply, and one of the fourteen entries
 abbrev pub Ready : List ℕ → List ℕ → ℕ → Type 0

@@ -9,16 +9,16 @@ use places::Id;
 use table::Slot;
 ghost use mathlib.Core.Path.{_≡_};
 ghost use mathlib.Core.Bool.{false};
-ghost use Prim.Native.Nat.{_≤_};
+ghost use Prim.Native.Nat.{_≤_, _<_};
 ghost use lib.ListN.{length, take, drop};
 ghost use Rattle.octets.specs.Part.{between};
 ghost use Rattle.components.specs.Facility.{facility};
 ghost use Rattle.components.specs.Seen.{shownSeen, parameterLength};
+ghost use Rattle.messages.specs.Layout.{value};
 ghost use Rattle.table.specs.Seen.{slotSeen};
 ghost use Rattle.judging.specs.Seen.{verdictSeen};
-ghost use Rattle.deciding.specs.Decision.{shownBy};
 ghost use Rattle.deciding.specs.Steps.{onJudged, stepSix, stepFive, stepFour, exceptInvoke, onRelease, stepTwo, firstOf, entryOf, replyFirst, decide};
-ghost use Rattle.deciding.specs.Seen.{toldSeen, ToldWithin, decisionSeen, DecisionWithin, isSilent, Ready};
+ghost use Rattle.deciding.specs.Seen.{toldSeen, ToldWithin, decisionSeen, DecisionWithin, showsNothing, isSilent, fromEntry, Ready};
 
 // A component that is shown, and where its Facility value ends.
 pub enum Told {
@@ -27,13 +27,29 @@ pub enum Told {
 }
 
 // One verdict's case each, and what is needed to act on it.
-pub enum Decision {
+pub enum Act {
     Silent(u8),
     WithCause(u8),
     WithReject { id: Id, tag: u8, number: u8 },
-    OnReject(Told),
-    Released { told: Told, cause: Part },
-    Taken { slot: Slot, told: Told },
+    OnReject,
+    Released(Part),
+    Taken(Slot),
+}
+
+// The case, and what is shown: nothing, where the case shows nothing.
+pub struct Decision {
+    pub act: Act,
+    pub told: Told,
+}
+
+// A decision that shows nothing.
+fn untold(act: Act) -> Decision
+    ensures { λ r. ⌜ r ≡ showsNothing act ⌝ }
+{
+    Decision {
+        act: act,
+        told: Told::Nothing,
+    }
 }
 
 // Step 6's answer.
@@ -44,15 +60,15 @@ fn rule(s: &[u8], verdict: Verdict, id: i8, shown: Shown, end: usize) -> Decisio
 {
     match verdict {
         Verdict::Problem { tag, number } => {
-            return Decision::WithReject {
+            return untold(Act::WithReject {
                 id: Id::Is(id),
                 tag: tag,
                 number: number,
-            };
+            });
         }
         Verdict::Accepted(slot) => {
-            return Decision::Taken {
-                slot: slot,
+            return Decision {
+                act: Act::Taken(slot),
                 told: Told::Is {
                     shown: shown,
                     end: end,
@@ -100,10 +116,13 @@ fn weigh_component(slot: Slot, shown: Shown, s: &[u8], end: usize) -> Decision
             tag: _,
             problem: _,
         } => {
-            return Decision::OnReject(Told::Is {
-                shown: shown,
-                end: end,
-            });
+            return Decision {
+                act: Act::OnReject,
+                told: Told::Is {
+                    shown: shown,
+                    end: end,
+                },
+            };
         }
     }
 }
@@ -118,30 +137,27 @@ fn weigh(slot: Slot, s: &[u8], start: usize, end: usize) -> Decision
     let peer = slot.peer;
     match components::facility::read_facility(&s[start..end]) {
         Reading::Empty => {
-            return Decision::Taken {
-                slot: Slot {
-                    open: true,
-                    own: own,
-                    peer: peer,
-                },
-                told: Told::Nothing,
-            };
+            return untold(Act::Taken(Slot {
+                open: true,
+                own: own,
+                peer: peer,
+            }));
         }
         Reading::Shows(shown) => {
             return weigh_component(slot, shown, s, end);
         }
         Reading::General { problem, id } => {
-            return Decision::WithReject {
+            return untold(Act::WithReject {
                 id: id,
                 tag: 0x80,
                 number: problem,
-            };
+            });
         }
         Reading::LeftOver => {
-            return Decision::WithCause(29);
+            return untold(Act::WithCause(29));
         }
         Reading::FaultyReject => {
-            return Decision::OnReject(Told::Nothing);
+            return untold(Act::OnReject);
         }
     }
 }
@@ -152,7 +168,7 @@ fn decide_required(slot: Slot, s: &[u8], kind: u8) -> Decision
     ensures within { λ r. ⌜ DecisionWithin (now (s .entry)) r ⌝ }
 {
     let Body::Facility { start, end } = messages::scan::read_required(s, kind) else {
-        return Decision::WithCause(96);
+        return untold(Act::WithCause(96));
     };
     weigh(slot, s, start, end)
 }
@@ -199,38 +215,6 @@ fn except_invoke(s: &[u8], told: Told) -> Told
     }
 }
 
-// What a RELEASE COMPLETE shows of a decision.
-fn shown_in_release(s: &[u8], decision: Decision) -> Told
-    requires { ⌜ DecisionWithin (now s) decision ⌝ }
-    ensures shows { λ r. ⌜ toldSeen (now (s .entry)) r ≡ exceptInvoke (shownBy (decisionSeen (now (s .entry)) decision)) ⌝ }
-    ensures within { λ r. ⌜ ToldWithin (now (s .entry)) r ⌝ }
-{
-    match decision {
-        Decision::Silent(_) => {
-            return Told::Nothing;
-        }
-        Decision::WithCause(_) => {
-            return Told::Nothing;
-        }
-        Decision::WithReject {
-            id: _,
-            tag: _,
-            number: _,
-        } => {
-            return Told::Nothing;
-        }
-        Decision::OnReject(told) => {
-            return except_invoke(s, told);
-        }
-        Decision::Released { told, cause: _ } => {
-            return except_invoke(s, told);
-        }
-        Decision::Taken { slot: _, told } => {
-            return except_invoke(s, told);
-        }
-    }
-}
-
 // RELEASE COMPLETE of an open entry.
 fn decide_release(slot: Slot, s: &[u8]) -> Decision
     ensures decides { λ r. ⌜ decisionSeen (now (s .entry)) r ≡ onRelease (slotSeen slot) (now (s .entry)) ⌝ }
@@ -238,14 +222,13 @@ fn decide_release(slot: Slot, s: &[u8]) -> Decision
 {
     let cause = messages::scan::find(s, 0x08);
     let Part::Between { start, end } = messages::scan::find(s, 0x1C) else {
-        return Decision::Released {
-            told: Told::Nothing,
-            cause: cause,
-        };
+        return untold(Act::Released(cause));
     };
-    Decision::Released {
-        told: shown_in_release(s, weigh(slot, s, start, end)),
-        cause: cause,
+    let decision = weigh(slot, s, start, end);
+    let told = decision.told;
+    Decision {
+        act: Act::Released(cause),
+        told: except_invoke(s, told),
     }
 }
 
@@ -257,27 +240,27 @@ fn decide_by_type(slot: Slot, flag: u8, kind: u8, s: &[u8]) -> Decision
     match messages::layout::type_of(kind) {
         MessageType::ReleaseComplete => {
             if !slot.open {
-                return Decision::Silent(1);
+                return untold(Act::Silent(1));
             }
             return decide_release(slot, s);
         }
         MessageType::Facility => {
             if !slot.open {
-                return Decision::WithCause(81);
+                return untold(Act::WithCause(81));
             }
             return decide_required(slot, s, 0x3A);
         }
         MessageType::Register => {
             if slot.open {
-                return Decision::WithCause(98);
+                return untold(Act::WithCause(98));
             }
             if flag == 1 {
-                return Decision::Silent(1);
+                return untold(Act::Silent(1));
             }
             return decide_required(slot, s, 0x3B);
         }
         MessageType::Unknown => {
-            return Decision::WithCause(97);
+            return untold(Act::WithCause(97));
         }
     }
 }
@@ -315,31 +298,16 @@ pub fn reply_first(message: &[u8]) -> u8
     )
 }
 
-// 28 and 27, then the steps.
-pub fn decide(table: &[u8], message: &[u8], room: usize) -> Decision
-    ensures decides { λ r. ⌜ decisionSeen (drop 2 (now (message .entry))) r ≡ decide (now (table .entry)) (now (message .entry)) room ⌝ }
+// Step 2: the entry that flag and value pick; value 7 picks none.
+fn decide_entry(table: &[u8], message: &[u8]) -> Decision
+    requires { ⌜ 2 ≤ length (now message) ⌝ }
+    ensures decides { λ r. ⌜ decisionSeen (drop 2 (now (message .entry))) r ≡ fromEntry (now (table .entry)) (now (message .entry)) ⌝ }
     ensures within { λ r. ⌜ DecisionWithin (drop 2 (now (message .entry))) r ⌝ }
-    ensures ready { λ r. ⌜ (isSilent r ≡ false → Ready (now (table .entry)) (now (message .entry)) room) ⌝ }
+    ensures ready { λ r. ⌜ (isSilent r ≡ false → value (firstOf (now (message .entry))) < 7) ⌝ }
 {
-    if !table::is_valid(table) {
-        return Decision::Silent(28);
-    }
-    if room < 12 {
-        return Decision::Silent(27);
-    }
-    if 255 < message.len() {
-        return Decision::Silent(6);
-    }
-    if message.len() < 2 {
-        return Decision::Silent(1);
-    }
     let first = message[0];
-    if messages::layout::discriminator_of(first) != 11 {
-        return Decision::Silent(7);
-    }
-    let value = messages::layout::value_of(first);
-    if value == 7 {
-        return Decision::Silent(1);
+    if messages::layout::value_of(first) == 7 {
+        return untold(Act::Silent(1));
     }
     let slot = table::read_entry(table, entry_of(message));
     decide_by_type(
@@ -348,4 +316,28 @@ pub fn decide(table: &[u8], message: &[u8], room: usize) -> Decision
         message[1],
         &message[2..],
     )
+}
+
+// 28 and 27, then the steps.
+pub fn decide(table: &[u8], message: &[u8], room: usize) -> Decision
+    ensures decides { λ r. ⌜ decisionSeen (drop 2 (now (message .entry))) r ≡ decide (now (table .entry)) (now (message .entry)) room ⌝ }
+    ensures within { λ r. ⌜ DecisionWithin (drop 2 (now (message .entry))) r ⌝ }
+    ensures ready { λ r. ⌜ (isSilent r ≡ false → Ready (now (table .entry)) (now (message .entry)) room) ⌝ }
+{
+    if !table::is_valid(table) {
+        return untold(Act::Silent(28));
+    }
+    if room < 12 {
+        return untold(Act::Silent(27));
+    }
+    if 255 < message.len() {
+        return untold(Act::Silent(6));
+    }
+    if message.len() < 2 {
+        return untold(Act::Silent(1));
+    }
+    if messages::layout::discriminator_of(message[0]) != 11 {
+        return untold(Act::Silent(7));
+    }
+    decide_entry(table, message)
 }

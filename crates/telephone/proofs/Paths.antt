@@ -9,7 +9,7 @@ use lib.ListN.{length, drop, length-drop}
 use lib.IntN.{ℤ}
 use lib.Dec.{leb, eqb}
 use borrow.Author.Tests.{ne-eqb}
-use Rattle.octets.specs.Reader.{Answer, fault, sound, Taken}
+use Rattle.octets.specs.Reader.{Answer, fault, sound}
 use Rattle.octets.specs.Splice.{splice}
 use Rattle.octets.proofs.ReaderLaws.{sound-inj, through, passed}
 use Rattle.codes.specs.Operations.{begins}
@@ -18,20 +18,23 @@ use Rattle.parameters.specs.declared.suits.Place.the-variants.{InvokeWritten}
 use Rattle.components.specs.Component.{invoke, error}
 use Rattle.components.specs.Written.{octets, answer, codedLength, answerLength}
 use Rattle.messages.specs.Layout.{flag, value, register, facilityMessage}
-use Rattle.messages.specs.Seen.{partSeen}
+use Rattle.messages.specs.Seen.{partSeen, PartWithin}
 use Rattle.messages.specs.declared.scan.Part.{Part}
 use Rattle.table.specs.Table.{size, valid, lowestClosed, withEntry}
 use Rattle.table.proofs.TableLaws.{lowest-closed-is}
 use Rattle.calling.specs.Calls.{Sending, orRefused, fitting, begin}
 use Rattle.calling.proofs.Lengths.{register-octets, facility-invoke, facility-error, facility-answer}
 use Rattle.showing.specs.Views.{componentView, textView, causeView}
-use Rattle.deciding.specs.Decision.{Decision, Shows, silent, shownBy}
+use Rattle.deciding.specs.Decision.{Decision}
 use Rattle.deciding.specs.Steps.{firstOf, entryOf}
-use Rattle.deciding.specs.Seen.{toldSeen, Ready}
+use Rattle.deciding.specs.Seen.{toldSeen, actSeen, ActWithin, decisionSeen, DecisionWithin, actsNot, isSilent, Ready}
 use Rattle.deciding.specs.declared.Told.{Told}
+use Rattle.deciding.specs.declared.Act.{Act}
+use Rattle.deciding.specs.declared.Decision.{Decision as Made}
 use Rattle.telephone.specs.Receive.{verdictOf, sentBy, tableBy, causeBy, act}
 use Rattle.telephone.specs.Calls.{called}
-use Rattle.telephone.specs.FromC.{shownAs, receivedOf, calledOf}
+use Rattle.telephone.specs.FromC.{shownAs, receivedOf, withoutCause, ActedAs, calledOf}
+use Rattle.telephone.specs.declared.receive.Acted.{Acted}
 use Rattle.telephone.specs.declared.receive.Received.{Received}
 
 place-most : (b : Bool) (v : ℕ) → v < 7 → cond b v (7 + v) < 14
@@ -48,24 +51,60 @@ pub splice-none : (b : List ℕ) → b ≡ splice b 0 []
 unfolding splice
 splice-none b = refl
 
-module _ (t m b : List ℕ) where
-  -- what is shown of the octets behind the head is shown of the message
-  pub acted : (d : Decision) (p : List ℕ) (r : Received) (code w : ℕ) (shows : List ℕ → Shows) (cause : List ℕ → Option (Taken (List ℕ))) (b′ t′ : List ℕ)
-      → 2 ≤ length m → p ≡ drop 2 m → code ≡ verdictOf d → shows (drop 2 m) ≡ shownBy d → cause (drop 2 m) ≡ causeBy d
-      → w ≡ length (sentBy m d) → b′ ≡ splice b 0 (sentBy m d) → t′ ≡ tableBy t m d
-      → r ≡ shownAs (2 + length p) code w (shows p) (cause p)
-      → (r ≡ receivedOf (length m) (act t m b d)) × ((b′ ≡ act t m b d .buffer) × (t′ ≡ act t m b d .table))
-  unfolding act
-  acted d p r code w shows cause b′ t′ h e v x y l f g q =
-      let n : 2 + length (drop 2 m) ≡ length m = omega (arith, length-drop 2 m) in
-      let z : r ≡ receivedOf (length m) (act t m b d) = q ∙ rw (e, n, x, y, v, l) in
-      (z, (f, g))
+-- what is done is told by the case alone
+module _ (t m b : List ℕ) (d : Made) (a : Act) (e : d .act ≡ a) where
+  abbrev told-as : Decision
+  told-as = actSeen (drop 2 m) a (toldSeen (drop 2 m) (d .told))
 
-  -- nothing is sent and nothing changes
-  pub unanswered : (code : ℕ) (p : List ℕ) (r : Received) → r ≡ shownAs (2 + length p) code 0 none none
-      → (r ≡ receivedOf (length m) (act t m b (silent code))) × ((b ≡ act t m b (silent code) .buffer) × (t ≡ act t m b (silent code) .table))
+  seen-as : decisionSeen (drop 2 m) d ≡ told-as
+  seen-as = ap (λ (x : Act). actSeen (drop 2 m) x (toldSeen (drop 2 m) (d .told))) e
+
+  pub done : (r : Acted) (b′ t′ : List ℕ) → r .code ≡ verdictOf told-as → r .written ≡ length (sentBy m told-as)
+      → partSeen (drop 2 m) (r .cause) ≡ causeBy told-as → PartWithin (drop 2 m) (r .cause) → b′ ≡ splice b 0 (sentBy m told-as) → t′ ≡ tableBy t m told-as
+      → ActedAs (drop 2 m) r (act t m b (decisionSeen (drop 2 m) d))
+      × ((b′ ≡ act t m b (decisionSeen (drop 2 m) d) .buffer) × (t′ ≡ act t m b (decisionSeen (drop 2 m) d) .table))
+  unfolding act
+  done r b′ t′ v l x y f g = rw seen-as ((v, (l, (x, y))), (f, g))
+
+  pub done-bare : (r : Acted) (code w : ℕ) (b′ t′ : List ℕ) → r ≡ withoutCause code w → code ≡ verdictOf told-as → w ≡ length (sentBy m told-as)
+      → none ≡ causeBy told-as → b′ ≡ splice b 0 (sentBy m told-as) → t′ ≡ tableBy t m told-as
+      → ActedAs (drop 2 m) r (act t m b (decisionSeen (drop 2 m) d))
+      × ((b′ ≡ act t m b (decisionSeen (drop 2 m) d) .buffer) × (t′ ≡ act t m b (decisionSeen (drop 2 m) d) .table))
+  done-bare r code w b′ t′ q v l x f g = rw q (done (withoutCause code w) b′ t′ v l x tt f g)
+
+-- it is acted on, in an image and a buffer that have room
+pub acts : (d : Made) (a : Act) → d .act ≡ a → actsNot a ≡ false → isSilent d ≡ false
+acts d a e n = ap (λ (x : Act). actsNot x) e ∙ n
+
+pub cause-small : (s : List ℕ) (d : Made) (n : ℕ) → d .act ≡ Act.WithCause n → DecisionWithin s d → n < 128
+cause-small s d n e h = (rw e at (h .1)) .1
+
+pub cause-within : (s : List ℕ) (d : Made) (p : Part) → d .act ≡ Act.Released p → DecisionWithin s d → PartWithin s p
+cause-within s d p e h = rw e at (h .1)
+
+-- what is shown of the octets behind the head is shown of the message
+module _ (t m b : List ℕ) where
+  behind-head : 2 ≤ length m → 2 + length (drop 2 m) ≡ length m
+  behind-head k = omega (arith, length-drop 2 m)
+
+  whole : (a : Act) (told : Told) → (actsNot a ≡ false → 2 ≤ length m) → ActWithin (drop 2 m) a told
+      → shownAs (2 + length (drop 2 m)) (verdictOf (actSeen (drop 2 m) a (toldSeen (drop 2 m) told))) (length (sentBy m (actSeen (drop 2 m) a (toldSeen (drop 2 m) told)))) (toldSeen (drop 2 m) told) (causeBy (actSeen (drop 2 m) a (toldSeen (drop 2 m) told)))
+      ≡ receivedOf (length m) (act t m b (actSeen (drop 2 m) a (toldSeen (drop 2 m) told)))
   unfolding act componentView textView causeView
-  unanswered code p r q = (q, (splice-none b, refl))
+  whole (Act.Silent code) told h w = rw w
+  whole (Act.WithCause number) told h w = rw (behind-head (h refl), w .0)
+  whole (Act.WithReject id tag number) told h w = rw (behind-head (h refl), w)
+  whole Act.OnReject told h w = rw (behind-head (h refl))
+  whole (Act.Released cause) told h w = rw (behind-head (h refl))
+  whole (Act.Taken slot) told h w = rw (behind-head (h refl))
+
+  pub shown-as : (d : Made) (x : Acted) (p : List ℕ) (r : Received) → (isSilent d ≡ false → Ready t m (length b)) → DecisionWithin (drop 2 m) d → p ≡ drop 2 m
+      → ActedAs (drop 2 m) x (act t m b (decisionSeen (drop 2 m) d))
+      → r ≡ shownAs (2 + length p) (x .code) (x .written) (toldSeen p (d .told)) (partSeen p (x .cause))
+      → r ≡ receivedOf (length m) (act t m b (decisionSeen (drop 2 m) d))
+  unfolding act
+  shown-as d x p r h w e f q =
+      q ∙ rw (e, f .0, f .1 .0, f .1 .1 .0) (whole (d .act) (d .told) (λ z. h z .1 .1 .0) (w .1))
 
 -- a call: refused, or sent
 module _ (t b : List ℕ) (value : Sending → ℕ) where

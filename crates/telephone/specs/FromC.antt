@@ -1,11 +1,15 @@
 -- What C gets of an outcome: every field is told by it.
 use Prim.Native.Nat.{ℕ}
+use mathlib.Core.Path.{_≡_}
 use mathlib.Core.List.{List}
 use mathlib.Core.Option.{Option}
 use Rattle.octets.specs.Reader.{Taken}
+use Rattle.messages.specs.Seen.{partSeen, PartWithin}
+use Rattle.messages.specs.declared.scan.Part.{Part}
 use Rattle.deciding.specs.Decision.{Shows}
 use Rattle.showing.specs.Views.{componentView, textView, causeView}
 use Rattle.telephone.specs.Outcome.{Outcome}
+use Rattle.telephone.specs.declared.receive.Acted.{Acted}
 use Rattle.telephone.specs.declared.receive.Received.{Received}
 use Rattle.telephone.specs.declared.calls.Called.{Called}
 
@@ -22,6 +26,13 @@ shownAs n code written shows cause =
 
 abbrev pub receivedOf : ℕ → Outcome → Received
 receivedOf n o = shownAs n (o .code) (o .written) (o .shown) (o .cause)
+
+-- what is done, before it is shown; s are the octets behind the type
+abbrev pub ActedAs : List ℕ → Acted → Outcome → Type 0
+ActedAs s r o = (r .code ≡ o .code) × ((r .written ≡ o .written) × ((partSeen s (r .cause) ≡ o .cause) × PartWithin s (r .cause)))
+
+abbrev pub withoutCause : ℕ → ℕ → Acted
+withoutCause code written = record { code = code; written = written; cause = Part.Nothing }
 
 abbrev pub calledOf : Outcome → Called
 calledOf o = record { code = o .code; value = o .value; written = o .written }

@@ -1,4 +1,5 @@
 // A received message.
+use deciding::Act;
 use deciding::Decision;
 use deciding::Told;
 use messages::scan::Part;
@@ -16,7 +17,7 @@ ghost use Rattle.messages.specs.Seen.{partSeen, PartWithin};
 ghost use Rattle.table.specs.Table.{size, closed, withEntry};
 ghost use Rattle.deciding.specs.Seen.{toldSeen, ToldWithin, decisionSeen, DecisionWithin, isSilent, Ready};
 ghost use Rattle.telephone.specs.Receive.{act, receive};
-ghost use Rattle.telephone.specs.FromC.{shownAs, receivedOf};
+ghost use Rattle.telephone.specs.FromC.{shownAs, receivedOf, withoutCause, ActedAs};
 
 // The verdict, or the refusal 27 or 28; how many octets of the reply are written; and what is shown.
 #[repr(C)]
@@ -68,42 +69,64 @@ fn close(table: &mut [u8], k: u8)
     table::write_entry(table, k, closed);
 }
 
-// The table of verdicts: what is sent, what becomes of the entry, what is shown.
-fn act(table: &mut [u8], message: &[u8], reply: &mut [u8], decision: Decision) -> Received
+// What is done: the verdict or the refusal, how many octets are written, and where the cause stands.
+pub struct Acted {
+    pub code: u8,
+    pub written: usize,
+    pub cause: Part,
+}
+
+// What is done without a cause.
+fn done(code: u8, written: usize) -> Acted
+    ensures { λ r. ⌜ r ≡ withoutCause code written ⌝ }
+{
+    Acted {
+        code: code,
+        written: written,
+        cause: Part::Nothing,
+    }
+}
+
+// The table of verdicts: what is sent, and what becomes of the entry.
+fn act(table: &mut [u8], message: &[u8], reply: &mut [u8], decision: Decision) -> Acted
     requires { ⌜ (isSilent decision ≡ false → Ready (now table) (now message) (length (now reply))) × DecisionWithin (drop 2 (now message)) decision ⌝ }
-    ensures returned { λ r. ⌜ r ≡ receivedOf (length (now (message .entry))) (act (now (table .entry)) (now (message .entry)) (now (reply .entry)) (decisionSeen (drop 2 (now (message .entry))) decision)) ⌝ }
+    ensures returned { λ r. ⌜ ActedAs (drop 2 (now (message .entry))) r (act (now (table .entry)) (now (message .entry)) (now (reply .entry)) (decisionSeen (drop 2 (now (message .entry))) decision)) ⌝ }
     ensures reply { λ _. ⌜ now (reply .exit) ≡ act (now (table .entry)) (now (message .entry)) (now (reply .entry)) (decisionSeen (drop 2 (now (message .entry))) decision) .buffer ⌝ }
     ensures table { λ _. ⌜ now (table .exit) ≡ act (now (table .entry)) (now (message .entry)) (now (reply .entry)) (decisionSeen (drop 2 (now (message .entry))) decision) .table ⌝ }
 {
-    let s = octets::part(message, 2, message.len());
     let k = deciding::entry_of(message);
     let first = deciding::reply_first(message);
-    match decision {
-        Decision::Silent(code) => {
-            return show(s, code, 0, Told::Nothing, Part::Nothing);
+    let act = decision.act;
+    match act {
+        Act::Silent(code) => {
+            return done(code, 0);
         }
-        Decision::WithCause(number) => {
+        Act::WithCause(number) => {
             let written = sending::write_release_cause(reply, first, number);
             close(table, k);
-            return show(s, 2, written, Told::Nothing, Part::Nothing);
+            return done(2, written);
         }
-        Decision::WithReject { id, tag, number } => {
+        Act::WithReject { id, tag, number } => {
             let written = sending::write_release_reject(reply, first, id, tag, number);
             close(table, k);
-            return show(s, 3, written, Told::Nothing, Part::Nothing);
+            return done(3, written);
         }
-        Decision::OnReject(told) => {
+        Act::OnReject => {
             let written = sending::write_release(reply, first);
             close(table, k);
-            return show(s, 4, written, told, Part::Nothing);
+            return done(4, written);
         }
-        Decision::Released { told, cause } => {
+        Act::Released(cause) => {
             close(table, k);
-            return show(s, 5, 0, told, cause);
+            return Acted {
+                code: 5,
+                written: 0,
+                cause: cause,
+            };
         }
-        Decision::Taken { slot, told } => {
+        Act::Taken(slot) => {
             table::write_entry(table, k, slot);
-            return show(s, 0, 0, told, Part::Nothing);
+            return done(0, 0);
         }
     }
 }
@@ -116,7 +139,11 @@ pub extern "C" fn smr_receive(table: &mut [u8], message: &[u8], reply: &mut [u8]
     ensures table { λ _. ⌜ now (table .exit) ≡ receive (now (table .entry)) (now (message .entry)) (now (reply .entry)) .table ⌝ }
 {
     let decision = deciding::decide(table, message, reply.len());
-    act(table, message, reply, decision)
+    let acted = act(table, message, reply, decision);
+    let told = decision.told;
+    let cause = acted.cause;
+    let s = octets::part(message, 2, message.len());
+    show(s, acted.code, acted.written, told, cause)
 }
 
 // The parameter of a shown component, as a part of the caller's own message.
