@@ -10,9 +10,10 @@ use lib.Seq.{drop-drop, getD-drop}
 use lib.Dec.{leb, eqb, eqb·zero-suc, eqb·suc-zero, eqb·suc-suc}
 use borrow.Author.Tests.{le-leb, lt-leb, eq-eqb, ne-eqb}
 use Rattle.octets.specs.Part.{between}
-use Rattle.octets.specs.Reader.{fault, sound, check, isEmpty}
+use Rattle.octets.specs.Reader.{Answer, fault, sound, Taken, andThen, check, isEmpty}
 use Rattle.octets.proofs.PartLaws.{length-between, getD-between, to-end}
-use Rattle.elements.specs.Element.{element, row}
+use Rattle.elements.specs.Element.{Element, element, row}
+use Rattle.elements.proofs.ElementLaws.{first-tag}
 use Rattle.elements.specs.Found.{seen}
 use Rattle.elements.specs.declared.Found.the-variants.{Whole}
 use Rattle.parameters.specs.Parameter.{mistyped, isSound, one, holding, string, text, ussdContents, ussd, isGuidance, guidance, basicService, ssForBsContents, inside}
@@ -45,6 +46,29 @@ and-false false = refl
 -- a part of what lies behind k
 behind : (k a e : ℕ) (s : List ℕ) → between (k + a) (k + e) s ≡ between a e (drop k s)
 behind k a e s = let d : k + e - (k + a) ≡ e - a = omega arith in rw (d, drop-drop)
+
+not-held : (b : Bool) (v : Element) (tag : ℕ) → (v .tag ≡ tag → ⊥)
+    → fault mistyped ≡ refusal (andThen (check b mistyped (sound v)) (λ e. check (eqb (e .tag) tag) mistyped (sound (e .contents))))
+not-held true v tag n = rw (ne-eqb (v .tag) tag n)
+not-held false v tag n = refl
+
+-- the first octet is another than the tag that must stand there
+module _ (s : List ℕ) (tag : ℕ) (d : getD s 0 0 ≡ tag → ⊥) where
+  other-held : (o : Answer (Taken Element)) → element s ≡ o → fault mistyped ≡ refusal (holding tag s)
+  other-held (fault n) q = rw q
+  other-held (sound g) q = rw q (not-held (isEmpty (g .rest)) (g .value) tag (λ e. d (sym (first-tag s g q) ∙ e)))
+
+  pub other-first : fault mistyped ≡ refusal (holding tag s)
+  other-first = other-held (element s) refl
+
+module _ (s : List ℕ) (low high : ℕ) (d : getD s 0 0 ≡ 0x04 → ⊥) where
+  other-string : (o : Answer (Taken Element)) → element s ≡ o → fault mistyped ≡ refusal (string low high s)
+  unfolding string
+  other-string (fault n) q = rw q
+  other-string (sound g) q = rw (q, ne-eqb (g .value .tag) 0x04 (λ e. d (sym (first-tag s g q) ∙ e)))
+
+  pub other-first-string : fault mistyped ≡ refusal (string low high s)
+  other-first-string = other-string (element s) refl
 
 module _ (s : List ℕ) where
   -- no element can be read

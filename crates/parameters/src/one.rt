@@ -30,6 +30,13 @@ pub fn contents_of(p: &[u8], tag: u8) -> Contents
     ensures reads { λ r. ⌜ contentsSeen (now (p .entry)) r ≡ refusal (holding tag (now (p .entry))) ⌝ }
     ensures within { λ r. ⌜ ContentsWithin (now (p .entry)) r ⌝ }
 {
+    // told at once, so that the tag need not be looked at again
+    if p.len() < 1 {
+        return Contents::Refused;
+    }
+    if p[0] != tag {
+        return Contents::Refused;
+    }
     let Found::Whole { tag: t, start, end } = elements::read_element(p) else {
         return Contents::Refused;
     };

@@ -25,6 +25,13 @@ pub fn read_string(s: &[u8], low: usize, high: usize) -> Octets
     ensures reads { λ r. ⌜ octetsSeen (now (s .entry)) r ≡ refusal (string low high (now (s .entry))) ⌝ }
     ensures within { λ r. ⌜ OctetsWithin (now (s .entry)) low r ⌝ }
 {
+    // told at once, so that the tag need not be looked at again
+    if s.len() < 1 {
+        return Octets::Refused;
+    }
+    if s[0] != 0x04 {
+        return Octets::Refused;
+    }
     let Found::Whole { tag, start, end } = elements::read_element(s) else {
         return Octets::Refused;
     };
