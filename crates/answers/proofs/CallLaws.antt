@@ -1,0 +1,81 @@
+-- A command's call: what it leaves in the table and prints.
+use Prim.Native.Nat.{ℕ, _≤_}
+use mathlib.Core.Path.{_≡_, refl, sym, ap, _∙_}
+use mathlib.Core.List.{List}
+use mathlib.Core.Bool.{Bool, true, false}
+use native.Mathlib.Omega.{arith}
+use lib.IntN.{ℤ}
+use lib.ListN.{length}
+use Rattle.octets.specs.Splice.{splice}
+use Rattle.codes.specs.Ids.{idOf, octetOf}
+use Rattle.codes.proofs.IdLaws.{IsId, id-back}
+use Rattle.printing.proofs.JoinLaws.{splice-nil}
+use Rattle.words.specs.declared.Command.the-variants.{Nothing, Unknown, Receive, Begin, Invoke, Result, Error, Release, Table, Buffer}
+use Rattle.telephone.specs.Outcome.{Outcome}
+use Rattle.telephone.specs.Receive.{receive}
+use Rattle.telephone.specs.Calls.{begin, invokeWithin, result, error, release}
+use Rattle.telephone.specs.FromC.{receivedOf, calledOf}
+use Rattle.telephone.specs.declared.receive.Received.{Received}
+use Rattle.telephone.specs.declared.calls.Called.{Called}
+use Rattle.reports.specs.Shown.{receivedText, calledText}
+use Rattle.answers.specs.Answers.{Made, received, called, idle, made}
+
+-- an id that the code hands on comes back as itself
+module _ (t b p : List ℕ) where
+  pub receive-made : (at : ℕ) → made t b p (Receive at) ≡ received p (receive t p b)
+  unfolding made
+  receive-made at = refl
+
+  pub begin-made : (operation : ℕ) (id : ℤ) (at : ℕ) → IsId id → made t b p (Begin operation id at) ≡ called true (begin t b operation (idOf (octetOf id)) p)
+  unfolding made
+  begin-made operation id at h = ap (λ (z : ℤ). called true (begin t b operation z p)) (sym (id-back h))
+
+  pub invoke-made : (flag value operation : ℕ) (id : ℤ) (at : ℕ) → IsId id → made t b p (Invoke flag value operation id at) ≡ called false (invokeWithin t b flag value operation (idOf (octetOf id)) p)
+  unfolding made
+  invoke-made flag value operation id at h = ap (λ (z : ℤ). called false (invokeWithin t b flag value operation z p)) (sym (id-back h))
+
+  pub result-made : (flag value : ℕ) (id : ℤ) (at : ℕ) → IsId id → made t b p (Result flag value id at) ≡ called false (result t b flag value (idOf (octetOf id)) p)
+  unfolding made
+  result-made flag value id at h = ap (λ (z : ℤ). called false (result t b flag value z p)) (sym (id-back h))
+
+  pub error-made : (flag value : ℕ) (id : ℤ) (code at : ℕ) → IsId id → made t b p (Error flag value id code at) ≡ called false (error t b flag value (idOf (octetOf id)) code p)
+  unfolding made
+  error-made flag value id code at h = ap (λ (z : ℤ). called false (error t b flag value z code p)) (sym (id-back h))
+
+  pub release-made : (flag value : ℕ) → made t b p (Release flag value) ≡ called false (release t b flag value)
+  unfolding made
+  release-made flag value = refl
+
+  pub none-made : (made t b p Nothing ≡ idle t) × (made t b p Unknown ≡ idle t)
+  unfolding made
+  none-made = (refl, refl)
+
+  pub table-made : (at : ℕ) → made t b p (Table at) ≡ idle t
+  unfolding made
+  table-made at = refl
+
+  pub buffer-made : (n : ℕ) → made t b p (Buffer n) ≡ idle t
+  unfolding made
+  buffer-made n = refl
+
+-- what the code leaves and answers, as the definition has it
+abbrev pub Makes : Made → List ℕ → List ℕ → List ℕ → ℕ → Type 0
+Makes m page table after r = (table ≡ m .table) × ((after ≡ splice page 0 (m .text)) × ((r ≡ length (m .text)) × (r ≤ 70000)))
+
+module _ (m : Made) (page table buffer after : List ℕ) (r : ℕ) (o : Outcome) where
+  pub makes-call : (begins : Bool) (k : Called) → m ≡ called begins o → (k ≡ calledOf o) × ((buffer ≡ o .buffer) × (table ≡ o .table))
+      → (after ≡ splice page 0 (calledText begins buffer k)) × ((r ≡ length (calledText begins buffer k)) × (r ≤ 70000))
+      → Makes m page table after r
+  makes-call begins k e s w =
+      let x : calledText begins buffer k ≡ m .text = (λ i. calledText begins (s .1 .0 i) (s .0 i)) ∙ ap (λ (d : Made). d .text) (sym e) in
+      (s .1 .1 ∙ ap (λ (d : Made). d .table) (sym e), (w .0 ∙ ap (λ (y : List ℕ). splice page 0 y) x, (w .1 .0 ∙ ap (λ (y : List ℕ). length y) x, w .1 .1)))
+
+  pub makes-receive : (p : List ℕ) (k : Received) → m ≡ received p o → (k ≡ receivedOf (length p) o) × ((buffer ≡ o .buffer) × (table ≡ o .table))
+      → (after ≡ splice page 0 (receivedText p buffer k)) × ((r ≡ length (receivedText p buffer k)) × (r ≤ 70000))
+      → Makes m page table after r
+  makes-receive p k e s w =
+      let x : receivedText p buffer k ≡ m .text = (λ i. receivedText p (s .1 .0 i) (s .0 i)) ∙ ap (λ (d : Made). d .text) (sym e) in
+      (s .1 .1 ∙ ap (λ (d : Made). d .table) (sym e), (w .0 ∙ ap (λ (y : List ℕ). splice page 0 y) x, (w .1 .0 ∙ ap (λ (y : List ℕ). length y) x, w .1 .1)))
+
+pub makes-none : (m : Made) (page table : List ℕ) → m ≡ idle table → Makes m page table page 0
+makes-none m page table e = rw e (refl, (sym (splice-nil page 0), (refl, omega arith)))

@@ -1,0 +1,5 @@
+mod LineLaws
+mod PageLaws
+mod AnswerLaws
+mod CallLaws
+mod RoomLaws

@@ -1,0 +1,378 @@
+// Each line's answer.
+use printing::lines::number_line;
+use printing::lines::octets_line;
+use printing::numbers::put_decimal;
+use printing::numbers::put_words;
+use reports::shown::called_text;
+use reports::shown::received_text;
+use words::Command;
+use words::Ending;
+ghost use mathlib.Core.Path.{_≡_};
+ghost use Prim.Native.Nat.{_+_, _≤_};
+ghost use lib.ListN.{length, take};
+ghost use Rattle.octets.specs.Splice.{splice};
+ghost use Rattle.answers.specs.Answers.{notUnderstood, tooLong, made, call, image, asksOf, onOctets, heldOf, Sound, answer, answerLine};
+
+// What a command asks for; octets in hex begin at a place of the line.
+pub enum Asks {
+    Passed,
+    Unclear,
+    Room(usize),
+    Image(usize),
+    Call(usize),
+}
+
+// How long the table's image is and the reply buffer, from line to line; and how much of the page is written.
+pub struct Held {
+    pub size: usize,
+    pub room: usize,
+    pub written: usize,
+}
+
+fn asks_of(end: usize, command: Command) -> Asks
+    ensures { λ r. ⌜ r ≡ asksOf end command ⌝ }
+{
+    match command {
+        Command::Nothing => {
+            return Asks::Passed;
+        }
+        Command::Unknown => {
+            return Asks::Unclear;
+        }
+        Command::Buffer(n) => {
+            return Asks::Room(n);
+        }
+        Command::Table { at } => {
+            return Asks::Image(at);
+        }
+        Command::Receive { at } => {
+            return Asks::Call(at);
+        }
+        Command::Begin {
+            operation: _,
+            id: _,
+            at,
+        } => {
+            return Asks::Call(at);
+        }
+        Command::Invoke {
+            flag: _,
+            value: _,
+            operation: _,
+            id: _,
+            at,
+        } => {
+            return Asks::Call(at);
+        }
+        Command::Result {
+            flag: _,
+            value: _,
+            id: _,
+            at,
+        } => {
+            return Asks::Call(at);
+        }
+        Command::Error {
+            flag: _,
+            value: _,
+            id: _,
+            code: _,
+            at,
+        } => {
+            return Asks::Call(at);
+        }
+        Command::Release { flag: _, value: _ } => {
+            return Asks::Call(end);
+        }
+    }
+}
+
+fn not_understood(page: &mut [u8], number: u64) -> usize
+    requires { ⌜ 64 ≤ length (now page) ⌝ }
+    ensures writes { λ _. ⌜ now (page .exit) ≡ splice (now (page .entry)) 0 (notUnderstood number) ⌝ }
+    ensures next { λ r. ⌜ r ≡ length (notUnderstood number) ⌝ }
+    ensures within { λ r. ⌜ r ≤ 64 ⌝ }
+{
+    let a = put_words(page, 0, b"line ");
+    let b = put_decimal(page, a, number);
+    put_words(page, b, b" not understood\n\n")
+}
+
+pub fn too_long(page: &mut [u8], number: u64) -> usize
+    requires { ⌜ 64 ≤ length (now page) ⌝ }
+    ensures writes { λ _. ⌜ now (page .exit) ≡ splice (now (page .entry)) 0 (tooLong number) ⌝ }
+    ensures next { λ r. ⌜ r ≡ length (tooLong number) ⌝ }
+    ensures within { λ r. ⌜ r ≤ 64 ⌝ }
+{
+    let behind = put_words(page, 0, b"line ");
+    let end = put_decimal(page, behind, number);
+    put_words(page, end, b" too long\n\n")
+}
+
+// Makes a command's call, over a table and a cleared buffer.
+fn make(
+    table: &mut [u8],
+    buffer: &mut [u8],
+    octets: &[u8],
+    command: Command,
+    page: &mut [u8],
+) -> usize
+    requires { ⌜ (length (now octets) ≤ 4096) × ((length (now buffer) ≤ 300) × (70000 ≤ length (now page))) ⌝ }
+    ensures table { λ _. ⌜ now (table .exit) ≡ made (now (table .entry)) (now (buffer .entry)) (now (octets .entry)) command .table ⌝ }
+    ensures writes { λ _. ⌜ now (page .exit) ≡ splice (now (page .entry)) 0 (made (now (table .entry)) (now (buffer .entry)) (now (octets .entry)) command .text) ⌝ }
+    ensures next { λ r. ⌜ r ≡ length (made (now (table .entry)) (now (buffer .entry)) (now (octets .entry)) command .text) ⌝ }
+    ensures within { λ r. ⌜ r ≤ 70000 ⌝ }
+{
+    match command {
+        Command::Receive { at: _ } => {
+            let received = telephone::receive::smr_receive(table, octets, buffer);
+            return received_text(page, octets, buffer, received);
+        }
+        Command::Begin {
+            operation,
+            id,
+            at: _,
+        } => {
+            let called = telephone::calls::smr_begin(table, operation, id, octets, buffer);
+            return called_text(page, true, buffer, called);
+        }
+        Command::Invoke {
+            flag,
+            value,
+            operation,
+            id,
+            at: _,
+        } => {
+            let called = telephone::calls::smr_invoke(
+                table,
+                flag,
+                value,
+                operation,
+                id,
+                octets,
+                buffer,
+            );
+            return called_text(page, false, buffer, called);
+        }
+        Command::Result {
+            flag,
+            value,
+            id,
+            at: _,
+        } => {
+            let called = telephone::calls::smr_result(table, flag, value, id, octets, buffer);
+            return called_text(page, false, buffer, called);
+        }
+        Command::Error {
+            flag,
+            value,
+            id,
+            code,
+            at: _,
+        } => {
+            let called = telephone::calls::smr_error(table, flag, value, id, code, octets, buffer);
+            return called_text(page, false, buffer, called);
+        }
+        Command::Release { flag, value } => {
+            let called = telephone::calls::smr_release(table, flag, value, buffer);
+            return called_text(page, false, buffer, called);
+        }
+        Command::Nothing => {
+            return 0;
+        }
+        Command::Unknown => {
+            return 0;
+        }
+        Command::Table { at: _ } => {
+            return 0;
+        }
+        Command::Buffer(_) => {
+            return 0;
+        }
+    }
+}
+
+// Prints the image, or sets it.
+fn on_image(space: &mut [u8], held: Held, octets: &[u8], number: u64, page: &mut [u8]) -> Held
+    requires { ⌜ (length (now space) ≡ 300) × ((held .size ≤ 300) × ((held .room ≤ 300) × (70000 ≤ length (now page)))) ⌝ }
+    ensures image { λ _. ⌜ now (space .exit) ≡ splice (now (space .entry)) 0 (image number (record { table = take (held .size) (now (space .entry)); room = held .room }) (now (octets .entry)) .state .table) ⌝ }
+    ensures writes { λ _. ⌜ now (page .exit) ≡ splice (now (page .entry)) 0 (image number (record { table = take (held .size) (now (space .entry)); room = held .room }) (now (octets .entry)) .text) ⌝ }
+    ensures held { λ r. ⌜ r ≡ record { size = length (image number (record { table = take (held .size) (now (space .entry)); room = held .room }) (now (octets .entry)) .state .table); room = held .room; written = length (image number (record { table = take (held .size) (now (space .entry)); room = held .room }) (now (octets .entry)) .text) } ⌝ }
+    ensures within { λ r. ⌜ Sound r ⌝ }
+{
+    let size = held.size;
+    let room = held.room;
+    if octets.len() == 0 {
+        let a = octets_line(page, 0, true, b"table", &space[..size]);
+        let b = put_words(page, a, b"\n");
+        return Held {
+            size: size,
+            room: room,
+            written: b,
+        };
+    }
+    if octets.len() <= 300 {
+        octets::put(space, 0, octets);
+        let a = put_words(page, 0, b"table set\n\n");
+        return Held {
+            size: octets.len(),
+            room: room,
+            written: a,
+        };
+    }
+    let a = not_understood(page, number);
+    Held {
+        size: size,
+        room: room,
+        written: a,
+    }
+}
+
+// Makes a call over the image, with a cleared buffer.
+fn on_call(space: &mut [u8], held: Held, octets: &[u8], command: Command, page: &mut [u8]) -> usize
+    requires { ⌜ (length (now space) ≡ 300) × ((held .size ≤ 300) × ((held .room ≤ 300) × ((length (now octets) ≤ 4096) × (70000 ≤ length (now page))))) ⌝ }
+    ensures image { λ _. ⌜ now (space .exit) ≡ splice (now (space .entry)) 0 (call command (record { table = take (held .size) (now (space .entry)); room = held .room }) (now (octets .entry)) .state .table) ⌝ }
+    ensures writes { λ _. ⌜ now (page .exit) ≡ splice (now (page .entry)) 0 (call command (record { table = take (held .size) (now (space .entry)); room = held .room }) (now (octets .entry)) .text) ⌝ }
+    ensures next { λ r. ⌜ r ≡ length (call command (record { table = take (held .size) (now (space .entry)); room = held .room }) (now (octets .entry)) .text) ⌝ }
+    ensures size { λ _. ⌜ length (call command (record { table = take (held .size) (now (space .entry)); room = held .room }) (now (octets .entry)) .state .table) ≡ held .size ⌝ }
+    ensures within { λ r. ⌜ r ≤ 70000 ⌝ }
+{
+    let size = held.size;
+    let room = held.room;
+    let mut buffer = [0u8; 300];
+    make(
+        &mut space[..size],
+        &mut buffer[..room],
+        octets,
+        command,
+        page,
+    )
+}
+
+// The image or a call, with the octets of the line from a place on.
+fn on_octets(
+    line: &[u8],
+    at: usize,
+    is_image: bool,
+    command: Command,
+    number: u64,
+    space: &mut [u8],
+    held: Held,
+    page: &mut [u8],
+) -> Held
+    requires { ⌜ (length (now space) ≡ 300) × ((held .size ≤ 300) × ((held .room ≤ 300) × (70000 ≤ length (now page)))) ⌝ }
+    ensures image { λ _. ⌜ now (space .exit) ≡ splice (now (space .entry)) 0 (onOctets number (now (line .entry)) at «is_image» command (record { table = take (held .size) (now (space .entry)); room = held .room }) .state .table) ⌝ }
+    ensures writes { λ _. ⌜ now (page .exit) ≡ splice (now (page .entry)) 0 (onOctets number (now (line .entry)) at «is_image» command (record { table = take (held .size) (now (space .entry)); room = held .room }) .text) ⌝ }
+    ensures held { λ r. ⌜ r ≡ heldOf (onOctets number (now (line .entry)) at «is_image» command (record { table = take (held .size) (now (space .entry)); room = held .room })) ⌝ }
+    ensures within { λ r. ⌜ Sound r ⌝ }
+{
+    let size = held.size;
+    let room = held.room;
+    let mut octets = [0u8; 4096];
+    let row = words::hex::read_hex(octets::part(line, at, line.len()), &mut octets);
+    let ends = row.ends;
+    let count = row.count;
+    match ends {
+        Ending::Wrong => {
+            let a = not_understood(page, number);
+            return Held {
+                size: size,
+                room: room,
+                written: a,
+            };
+        }
+        Ending::Long => {
+            let a = too_long(page, number);
+            return Held {
+                size: size,
+                room: room,
+                written: a,
+            };
+        }
+        Ending::Whole => {
+            if is_image {
+                return on_image(space, held, &octets[..count], number, page);
+            }
+            let a = on_call(space, held, &octets[..count], command, page);
+            return Held {
+                size: size,
+                room: room,
+                written: a,
+            };
+        }
+    }
+}
+
+// A line's answer.
+fn answer(line: &[u8], number: u64, space: &mut [u8], held: Held, page: &mut [u8]) -> Held
+    requires { ⌜ (length (now space) ≡ 300) × ((held .size ≤ 300) × ((held .room ≤ 300) × (70000 ≤ length (now page)))) ⌝ }
+    ensures image { λ _. ⌜ now (space .exit) ≡ splice (now (space .entry)) 0 (answer number (now (line .entry)) (record { table = take (held .size) (now (space .entry)); room = held .room }) .state .table) ⌝ }
+    ensures writes { λ _. ⌜ now (page .exit) ≡ splice (now (page .entry)) 0 (answer number (now (line .entry)) (record { table = take (held .size) (now (space .entry)); room = held .room }) .text) ⌝ }
+    ensures held { λ r. ⌜ r ≡ heldOf (answer number (now (line .entry)) (record { table = take (held .size) (now (space .entry)); room = held .room })) ⌝ }
+    ensures within { λ r. ⌜ Sound r ⌝ }
+{
+    let size = held.size;
+    let room = held.room;
+    let command = words::commands::command(line);
+    let asks = asks_of(line.len(), command);
+    match asks {
+        Asks::Passed => {
+            return Held {
+                size: size,
+                room: room,
+                written: 0,
+            };
+        }
+        Asks::Unclear => {
+            let a = not_understood(page, number);
+            return Held {
+                size: size,
+                room: room,
+                written: a,
+            };
+        }
+        Asks::Room(n) => {
+            let a = number_line(page, 0, true, b"buffer", n as u64);
+            let b = put_words(page, a, b"\n");
+            return Held {
+                size: size,
+                room: n,
+                written: b,
+            };
+        }
+        Asks::Image(at) => {
+            return on_octets(line, at, true, command, number, space, held, page);
+        }
+        Asks::Call(at) => {
+            return on_octets(line, at, false, command, number, space, held, page);
+        }
+    }
+}
+
+// The answer to a line as it was gathered, with so many octets of it.
+pub fn answer_line(
+    line: &[u8],
+    have: usize,
+    number: u64,
+    space: &mut [u8],
+    held: Held,
+    page: &mut [u8],
+) -> Held
+    requires { ⌜ (length (now line) ≡ 16384) × ((length (now space) ≡ 300) × ((held .size ≤ 300) × ((held .room ≤ 300) × (70000 ≤ length (now page))))) ⌝ }
+    ensures image { λ _. ⌜ now (space .exit) ≡ splice (now (space .entry)) 0 (answerLine number (now (line .entry)) have (record { table = take (held .size) (now (space .entry)); room = held .room }) .state .table) ⌝ }
+    ensures writes { λ _. ⌜ now (page .exit) ≡ splice (now (page .entry)) 0 (answerLine number (now (line .entry)) have (record { table = take (held .size) (now (space .entry)); room = held .room }) .text) ⌝ }
+    ensures held { λ r. ⌜ r ≡ heldOf (answerLine number (now (line .entry)) have (record { table = take (held .size) (now (space .entry)); room = held .room })) ⌝ }
+    ensures within { λ r. ⌜ Sound r ⌝ }
+{
+    if 16384 < have {
+        let size = held.size;
+        let room = held.room;
+        let a = too_long(page, number);
+        return Held {
+            size: size,
+            room: room,
+            written: a,
+        };
+    }
+    answer(&line[..have], number, space, held, page)
+}
