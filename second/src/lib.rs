@@ -3,6 +3,7 @@
 //! A whole message is parsed into owned values; a call returns an owned outcome
 //! and changes nothing that it was lent. `ffi` calls the proved archive.
 
+pub mod bench;
 pub mod call;
 pub mod component;
 pub mod element;

@@ -23,20 +23,19 @@ fn counted(number: u64) -> u64 {
 }
 
 // Answers a line.
-fn say(line: &[u8; 16384], space: &mut [u8; 300], bench: Bench) -> Bench
+fn say(line: &[u8; 16384], space: &mut [u8; 300], page: &mut [u8; 70000], bench: Bench) -> Bench
     requires { ⌜ (bench .have ≤ 16385) × ((bench .size ≤ 300) × (bench .room ≤ 300)) ⌝ }
     ensures { λ r. ⌜ (r .have ≤ 16385) × ((r .size ≤ 300) × (r .room ≤ 300)) ⌝ }
 {
-    let mut page = [0u8; 70000];
     let number = counted(bench.number);
     let held = Held {
         size: bench.size,
         room: bench.room,
         written: 0,
     };
-    let next = answer_line(line, bench.have, number, space, held, &mut page);
+    let next = answer_line(line, bench.have, number, space, held, page);
     let written = next.written;
-    io::write_all(STDOUT_FILENO, octets::part(&page, 0, written));
+    io::write_all(STDOUT_FILENO, octets::part(page, 0, written));
     Bench {
         have: 0,
         number: number,
@@ -46,7 +45,13 @@ fn say(line: &[u8; 16384], space: &mut [u8; 300], bench: Bench) -> Bench
 }
 
 // Answers each line that ends in a piece of the input; what is left of it is the start of the next line.
-fn serve(input: &[u8], line: &mut [u8; 16384], space: &mut [u8; 300], bench: Bench) -> Bench
+fn serve(
+    input: &[u8],
+    line: &mut [u8; 16384],
+    space: &mut [u8; 300],
+    page: &mut [u8; 70000],
+    bench: Bench,
+) -> Bench
     requires { ⌜ (bench .have ≤ 16385) × ((bench .size ≤ 300) × (bench .room ≤ 300)) ⌝ }
     ensures { λ r. ⌜ (r .have ≤ 16385) × ((r .size ≤ 300) × (r .room ≤ 300)) ⌝ }
 {
@@ -57,7 +62,7 @@ fn serve(input: &[u8], line: &mut [u8; 16384], space: &mut [u8; 300], bench: Ben
         at = more.next;
         state.have = more.have;
         if more.is_whole {
-            state = say(line, space, state);
+            state = say(line, space, page, state);
         }
     }
     state
@@ -68,6 +73,7 @@ fn serve(input: &[u8], line: &mut [u8; 16384], space: &mut [u8; 300], bench: Ben
 fn main() {
     let mut space = [0u8; 300];
     let mut line = [0u8; 16384];
+    let mut page = [0u8; 70000];
     let mut input = [0u8; 4096];
     let mut state = Bench {
         have: 0,
@@ -83,9 +89,9 @@ fn main() {
         if n == 0 {
             break;
         }
-        state = serve(&input[..n], &mut line, &mut space, state);
+        state = serve(&input[..n], &mut line, &mut space, &mut page, state);
     }
     if state.have > 0 {
-        say(&line, &mut space, state);
+        say(&line, &mut space, &mut page, state);
     }
 }

@@ -1,22 +1,11 @@
 //! A call on the archive and on the second program, and the comparison.
 
+pub use crate::call::{Call, Named};
 use crate::notation::hex;
+use crate::report::lines;
 use second::ffi;
 use second::part::Part;
 use second::receive::Received;
-
-/// A transaction's flag and value.
-pub type Named = (u8, u8);
-
-#[derive(Clone, Debug)]
-pub enum Call {
-    Receive(Vec<u8>),
-    Begin(u8, i8, Vec<u8>),
-    Invoke(Named, u8, i8, Vec<u8>),
-    Result(Named, i8, Vec<u8>),
-    Error(Named, i8, u8, Vec<u8>),
-    Release(Named),
-}
 
 /// All that a call gives: what it returns, the whole buffer, the whole table.
 #[derive(Clone, Debug, PartialEq, Eq)]
@@ -207,13 +196,5 @@ fn report(table: &[u8], call: &Call, room: usize, archive: &Facts, second: &Fact
         println!("| value {}", facts.value);
         lines("buffer after", &hex(&facts.buffer));
         lines("table after", &hex(&facts.table));
-    }
-}
-
-fn lines(label: &str, text: &str) {
-    println!("| {label}:");
-    let text: Vec<char> = text.chars().collect();
-    for line in text.chunks(36) {
-        println!("|   {}", line.iter().collect::<String>());
     }
 }

@@ -4,6 +4,7 @@
 //! others bring the calls.
 
 mod both;
+mod call;
 mod calls;
 mod cases;
 mod chance;
@@ -15,6 +16,7 @@ mod later;
 mod messages;
 mod notation;
 mod parameters;
+mod report;
 mod short;
 mod small;
 mod tables;

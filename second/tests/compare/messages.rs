@@ -1,6 +1,6 @@
 //! Messages by chance, near the state of the table: sound, damaged, noise.
 
-use crate::both::Named;
+use crate::call::Named;
 use crate::chance::Chance;
 use crate::components::facility;
 use crate::tables::{self, open_one};

@@ -1,6 +1,6 @@
 //! The tables of READINGS, and others.
 
-use crate::both::Named;
+use crate::call::Named;
 use crate::chance::Chance;
 use crate::notation::octets;
 

@@ -1,6 +1,6 @@
 //! Local calls by chance, suitable or not.
 
-use crate::both::{Call, Named};
+use crate::call::{Call, Named};
 use crate::chance::Chance;
 use crate::components::{code, near};
 use crate::parameters as p;

@@ -11,10 +11,10 @@ use Rattle.answers.proofs.lines.gather.Reads as gather-reads
 use Rattle.bench.proofs.say.Reads as say-reads
 
 abbrev Inv-loop : tie.InvT-loop
-Inv-loop input line₀ space₀ state₀ at₀ line space state at = (at ≤ length input) × ((state .have ≤ 16385) × ((state .size ≤ 300) × (state .room ≤ 300)))
+Inv-loop input line₀ space₀ page₀ state₀ at₀ line space page state at = (at ≤ length input) × ((state .have ≤ 16385) × ((state .size ≤ 300) × (state .room ≤ 300)))
 
 abbrev μ-loop : tie.MeasureT-loop
-μ-loop input line₀ space₀ state₀ at₀ line space state at = length input - at
+μ-loop input line₀ space₀ page₀ state₀ at₀ line space page state at = length input - at
 
 -- src/main.rt:55:5
 loop-holds : tie.Need-loop-holds Inv-loop μ-loop
@@ -31,8 +31,8 @@ say-requires c κs = search needs
 -- src/main.rt:55:5
 loop-less : tie.Need-loop-less Inv-loop μ-loop
 loop-less c =
-    let ends = c .before .before .before .before .gather .ensures in
-    let further = onward (c .before .before .before .before .before .before .before .before .before .args .input .now) (c .before .before .before .before .before .before .before .loop .at) (c .before .before .before .before .before .before .before .loop .state .have) (c .before .before .before .before .gather .result) (ends .0) (omega arith) in
+    let ends = c .before .before .before .before .before .gather .ensures in
+    let further = onward (c .before .before .before .before .before .before .before .before .before .before .args .input .now) (c .before .before .before .before .before .before .before .before .loop .at) (c .before .before .before .before .before .before .before .before .loop .state .have) (c .before .before .before .before .before .gather .result) (ends .0) (omega arith) in
     omega (arith, further)
 
 -- src/main.rt:55:5

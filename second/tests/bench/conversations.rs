@@ -1,0 +1,166 @@
+//! Conversations of many lines: messages and calls by chance, the table carried on.
+
+use crate::call::Call;
+use crate::chance::Chance;
+use crate::components::near;
+use crate::messages;
+use crate::occurrences::Occurrences;
+use crate::proved::compare;
+use crate::tables;
+use crate::talk::Talk;
+use crate::wishes;
+use crate::writing::{self, blanks, with_octets};
+
+const CONVERSATIONS: u64 = 24;
+const LINES: usize = 10_000;
+
+#[test]
+fn conversations() {
+    let mut occurrences = Occurrences::default();
+    // an emulator is some ten times slower
+    let emulated = std::env::var_os("SMR_EMULATED").is_some();
+    let share = if emulated { 2 } else { 1 };
+    for seed in 1..=CONVERSATIONS / share {
+        occurrences.add(&compare(&conversation(seed)));
+    }
+    occurrences.check();
+}
+
+fn conversation(seed: u64) -> Vec<u8> {
+    let mut c = Chance::new(7_919 * seed);
+    let mut talk = Talk::default();
+    while talk.lines < LINES {
+        match c.below(100) {
+            0..=1 => set_table(&mut c, &mut talk),
+            2 => damage(&mut c, &mut talk),
+            3..=5 => talk.say(b"table"),
+            6..=11 => short_of_room(&mut c, &mut talk),
+            12 => talk.say(passed_over(&mut c)),
+            13..=15 => {
+                let line = call(&mut c, &talk);
+                talk.say(writing::spoiled(&mut c, &line));
+            }
+            16 if c.one_in(2) => talk.say(over(&mut c)),
+            17 => linked(&mut c, &mut talk),
+            18 => talk.say(released(&mut c, &talk)),
+            _ => one_call(&mut c, &mut talk),
+        }
+    }
+    talk.input
+}
+
+/// A message or a call that suits the table more or less.
+fn call(c: &mut Chance, talk: &Talk) -> Vec<u8> {
+    let call = match c.below(5) {
+        0..=2 => Call::Receive(messages::message(c, talk.sound())),
+        _ => wishes::call(c, talk.sound()),
+    };
+    writing::line(c, &call)
+}
+
+fn one_call(c: &mut Chance, talk: &mut Talk) {
+    let line = call(c, talk);
+    talk.say(line);
+}
+
+fn table(c: &mut Chance, image: &[u8]) -> Vec<u8> {
+    with_octets(c, &["table".to_string()], image)
+}
+
+fn set_table(c: &mut Chance, talk: &mut Talk) {
+    let image = match c.below(4) {
+        0 => tables::named(c.pick(&["fresh", "w1", "both17", "other17", "full", "crowded"])),
+        _ => tables::random(c),
+    };
+    talk.say(table(c, &image));
+}
+
+/// A damaged image, or one of another length, for a call or a few.
+fn damage(c: &mut Chance, talk: &mut Talk) {
+    let image = match c.below(4) {
+        0 => {
+            let length = c.pick(&[1, 2, 69, 71, 299, 300, 301, 302]);
+            c.octets(length)
+        }
+        _ => tables::spoiled(c, talk.sound()),
+    };
+    let sound = talk.sound().to_vec();
+    talk.say(table(c, &image));
+    for _ in 0..c.range(1, 3) {
+        one_call(c, talk);
+    }
+    talk.say(b"table");
+    talk.say(table(c, &sound));
+}
+
+/// A getPassword that is linked to our registerPassword, which is rare by chance.
+fn linked(c: &mut Chance, talk: &mut Talk) {
+    let (value, own) = (c.below(7) as u8, c.id());
+    let mut image = talk.sound().to_vec();
+    let at = tables::place(1, value);
+    image[at..at + 5].copy_from_slice(&tables::open(Some([own, 17]), None));
+    talk.say(table(c, &image));
+    let mut message = vec![0x8B | value << 4, 0x3A, 0x0E, 0xA1, 0x0C];
+    message.extend([0x02, 0x01, c.id(), 0x80, 0x01, near(c, own)]);
+    message.extend([0x02, 0x01, 18, 0x0A, 0x01, c.below(3) as u8]);
+    talk.say(writing::line(c, &Call::Receive(message)));
+}
+
+/// A release with a cause, which may be empty.
+fn released(c: &mut Chance, talk: &Talk) -> Vec<u8> {
+    let open = tables::open_one(c, talk.sound(), 0);
+    let (flag, value) = open.unwrap_or_default();
+    let length = c.below(4);
+    let mut message = vec![flag << 7 | value << 4 | 0x0B, 0x2A, 0x08, length as u8];
+    message.extend(c.octets(length));
+    writing::line(c, &Call::Receive(message))
+}
+
+/// A buffer at the edge of what a call needs, or any other, then a long one.
+fn short_of_room(c: &mut Chance, talk: &mut Talk) {
+    let line = call(c, talk);
+    let answer = talk.answer_with_room(&line);
+    let message = answer.split_once("message").unwrap_or_default().1;
+    let edge = match message.split_whitespace().count() {
+        0 => 12,
+        length => length,
+    };
+    let room = match c.below(6) {
+        0..=3 => edge + c.below(3) - 1,
+        4 => c.pick(&[0, 1, 255, 300, 301]),
+        _ => c.below(301),
+    };
+    talk.say(format!("buffer {room}"));
+    talk.say(line);
+    if c.one_in(4) {
+        one_call(c, talk);
+    }
+    talk.say(c.pick(&["buffer 300", "buffer 255", "buffer 00300"]));
+}
+
+fn passed_over(c: &mut Chance) -> Vec<u8> {
+    let mut line = blanks(c, 0);
+    if c.flip() {
+        line.extend(b"# receive 0B 3C");
+    }
+    line
+}
+
+/// About 4,096 octets, mostly too many.
+fn over(c: &mut Chance) -> Vec<u8> {
+    let words = c.pick(&[
+        "receive",
+        "table",
+        "begin 59 1",
+        "invoke 0 0 59 1",
+        "result 0 0 1",
+        "error 0 0 1 1",
+    ]);
+    let count = c.pick(&[4_095, 4_096, 4_097, 4_097, 4_097, 4_098, 5_000]);
+    let octets = c.octets(count);
+    let mut line = with_octets(c, &[words.to_string()], &octets);
+    if c.one_in(4) {
+        line.pop();
+    }
+    line
+}

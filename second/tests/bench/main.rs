@@ -1,0 +1,33 @@
+//! The proved bench and the second one, compared over whole inputs.
+//!
+//! `proved` runs the program and compares, `worked` has answers made by hand, the
+//! others bring the inputs. What is drawn by chance is drawn as in tests/compare.
+
+#[path = "../compare/call.rs"]
+mod call;
+#[path = "../compare/chance.rs"]
+mod chance;
+#[path = "../compare/components.rs"]
+mod components;
+#[path = "../compare/messages.rs"]
+mod messages;
+#[path = "../compare/notation.rs"]
+mod notation;
+#[path = "../compare/parameters.rs"]
+mod parameters;
+#[path = "../compare/report.rs"]
+mod report;
+#[path = "../compare/tables.rs"]
+mod tables;
+#[path = "../compare/wishes.rs"]
+mod wishes;
+
+mod conversations;
+mod grammar;
+mod occurrences;
+mod proved;
+mod samples;
+mod sizes;
+mod talk;
+mod worked;
+mod writing;

@@ -1,0 +1,92 @@
+//! What has been printed over a run, and what must be.
+
+use std::collections::BTreeMap;
+
+#[derive(Default)]
+pub struct Occurrences(BTreeMap<String, u64>);
+
+/// Each must occur at least so often.
+const LEAST: u64 = 100;
+
+/// All that an answer's lines begin with.
+const NAMED: &[&str] = &[
+    "verdict 0 taken",
+    "verdict 1 ignored",
+    "verdict 2 cause sent",
+    "verdict 3 reject sent",
+    "verdict 4 reject received",
+    "verdict 5 network released",
+    "verdict 6 too long",
+    "verdict 7 other protocol",
+    "refused 20 not listed",
+    "refused 21 no value free",
+    "refused 22 not open",
+    "refused 23 still waiting",
+    "refused 24 no such invoke",
+    "refused 25 wrong parameter",
+    "refused 26 message too long",
+    "refused 27 buffer too short",
+    "refused 28 table damaged",
+    "done 0",
+    "invoke",
+    "result",
+    "error",
+    "reject",
+    "reject none",
+    "linked",
+    "operation",
+    "code",
+    "problem",
+    "value",
+    "parameter",
+    "scheme",
+    "string",
+    "tail",
+    "tail alone",
+    "cause",
+    "cause alone",
+    "reply",
+    "message",
+    "table",
+    "table set",
+    "buffer",
+    "not understood",
+    "too long",
+    "going on",
+];
+
+impl Occurrences {
+    pub fn add(&mut self, output: &[u8]) {
+        let output = std::str::from_utf8(output).expect("plain text");
+        for line in output.lines().filter(|line| !line.is_empty()) {
+            *self.0.entry(kind(line)).or_default() += 1;
+        }
+    }
+
+    /// Every one often enough, and no other.
+    pub fn check(&self) {
+        for name in NAMED {
+            let count = self.0.get(*name).copied().unwrap_or(0);
+            println!("{name}: {count}");
+            if count < LEAST {
+                println!("| {name}: only {count}");
+                panic!("too few");
+            }
+        }
+        let known = self.0.keys().all(|name| NAMED.contains(&name.as_str()));
+        assert!(known, "a line that bench.md doesn't name");
+    }
+}
+
+fn kind(line: &str) -> String {
+    let (first, rest) = line.split_once(' ').unwrap_or((line, ""));
+    match (first, rest) {
+        ("", _) => "going on".to_string(),
+        ("verdict" | "refused" | "done", _) => line.to_string(),
+        ("reject", "none") | ("table", "set") => line.to_string(),
+        ("tail" | "cause", "") => format!("{first} alone"),
+        // Behind the line's number.
+        ("line", _) => rest.split_once(' ').unwrap_or_default().1.to_string(),
+        _ => first.to_string(),
+    }
+}

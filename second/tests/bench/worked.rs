@@ -1,0 +1,358 @@
+//! Answers made by hand: the worked messages of 01, and others.
+
+use crate::proved::compare;
+use second::bench::answers;
+
+const W1: &str = "receive 0B 3B 1C 10 A1 0E 02 01 05 02 01 3C 30 06 04 01 0F 04 01 41";
+const W1_ANSWER: &str = "\
+verdict 0 taken
+invoke 5
+operation 60
+parameter 30 06 04 01 0F 04 01 41
+scheme 0F
+string 41
+tail
+
+";
+
+/// Lines, and their answers.
+const WORKED: &[(&[&str], &[&str])] = &[
+    // W1
+    (&[W1], &[W1_ANSWER]),
+    // W2
+    (
+        &["receive 0B3B1C13A11102010502013C300904010F040141040102"],
+        &["\
+verdict 0 taken
+invoke 5
+operation 60
+parameter 30 09 04 01 0F 04 01 41 04 01
+ 02
+scheme 0F
+string 41
+tail 04 01 02
+
+"],
+    ),
+    // W3
+    (
+        &[W1, "receive 0B3A 10A10E02010502013C300604010F040141"],
+        &[
+            W1_ANSWER,
+            "\
+verdict 3 reject sent
+reply 8B 2A 1C 08 A4 06 02 01 05 81 01
+ 00
+
+",
+        ],
+    ),
+    // W4
+    (
+        &[W1, "result 0 0 5 30 06 04 01 0F 04 01 31"],
+        &[
+            W1_ANSWER,
+            "\
+done 0
+message 8B 3A 12 A2 10 02 01 05 30 0B 02
+ 01 3C 30 06 04 01 0F 04 01 31
+
+",
+        ],
+    ),
+    // W5
+    (
+        &["receive 9B3A00"],
+        &["\
+verdict 2 cause sent
+reply 1B 2A 08 02 E0 D1
+
+"],
+    ),
+    // W6
+    (
+        &["receive 0b3c"],
+        &["\
+verdict 2 cause sent
+reply 8B 2A 08 02 E0 E1
+
+"],
+    ),
+    // W7
+    (
+        &[W1, "receive 0B3A02A500"],
+        &[
+            W1_ANSWER,
+            "\
+verdict 3 reject sent
+reply 8B 2A 1C 07 A4 05 05 00 80 01 00
+
+",
+        ],
+    ),
+    // W8
+    (&["receive 7B 3B"], &["verdict 1 ignored\n\n"]),
+    // W9
+    (
+        &["begin 59 1 300604010F040141"],
+        &["\
+done 0
+value 0
+message 0B 3B 1C 10 A1 0E 02 01 01 02 01
+ 3B 30 06 04 01 0F 04 01 41 7F 01 00
+
+"],
+    ),
+    // W10
+    (&["receive"], &["verdict 1 ignored\n\n"]),
+    // A linked Invoke of 18, and its answer.
+    (
+        &[
+            "begin 17 -3 040192",
+            "receive 8B3A0EA10C0201078001FD0201120A0100",
+            "result 1 0 7 1204 31323334",
+        ],
+        &[
+            "\
+done 0
+value 0
+message 0B 3B 1C 0B A1 09 02 01 FD 02 01
+ 11 04 01 92 7F 01 00
+
+",
+            "\
+verdict 0 taken
+invoke 7
+linked -3
+operation 18
+parameter 0A 01 00
+
+",
+            "\
+done 0
+message 0B 3A 10 A2 0E 02 01 07 30 09 02
+ 01 12 12 04 31 32 33 34
+
+",
+        ],
+    ),
+    // A result without 30, an error, Rejects with an id and without.
+    (
+        &[
+            "begin 10 1 0500",
+            "receive 8B3A05A203020101",
+            "invoke 1 0 10 -128 0500",
+            "receive 8B3A0AA3080201800201110500",
+            "receive 8B3A08A4060201FF8101FF",
+            "receive 0B3B1C07A4050500800100",
+        ],
+        &[
+            "\
+done 0
+value 0
+message 0B 3B 1C 0A A1 08 02 01 01 02 01
+ 0A 05 00 7F 01 00
+
+",
+            "verdict 0 taken\nresult 1\n\n",
+            "done 0\nmessage 0B 3A 0A A1 08 02 01 80 02 01 0A\n 05 00\n\n",
+            "verdict 0 taken\nerror -128\ncode 17\nparameter 05 00\n\n",
+            "verdict 4 reject received\nreject -1\nproblem 81 255\nreply 0B 2A\n\n",
+            "verdict 4 reject received\nreject none\nproblem 80 0\nreply 8B 2A\n\n",
+        ],
+    ),
+    // Causes, with octets and without; a text in a release.
+    (
+        &[
+            "begin 59 1 300604010F040141",
+            "receive 8B2A0802E09D1C12A210020101300B02013B300604010F040141",
+            "receive 0B3B1C00",
+            "receive 0B2A0800",
+        ],
+        &[
+            "\
+done 0
+value 0
+message 0B 3B 1C 10 A1 0E 02 01 01 02 01
+ 3B 30 06 04 01 0F 04 01 41 7F 01 00
+
+",
+            "\
+verdict 5 network released
+result 1
+operation 59
+parameter 30 06 04 01 0F 04 01 41
+scheme 0F
+string 41
+tail
+cause E0 9D
+
+",
+            "verdict 0 taken\n\n",
+            "verdict 5 network released\ncause\n\n",
+        ],
+    ),
+    // The table and the buffer.
+    (
+        &[
+            W1,
+            "table",
+            "buffer 0011",
+            "receive",
+            "release 0 0",
+            "table 00",
+            "receive",
+            "table",
+            "release 0 0",
+        ],
+        &[
+            W1_ANSWER,
+            "\
+table 00 00 00 00 00 00 00 00 00 00 00
+ 00 00 00 00 00 00 00 00 00 00 00 00 00
+ 00 00 00 00 00 00 00 00 00 00 00 05 00
+ 00 05 3C 00 00 00 00 00 00 00 00 00 00
+ 00 00 00 00 00 00 00 00 00 00 00 00 00
+ 00 00 00 00 00 00 00
+
+",
+            "buffer 11\n\n",
+            "refused 27 buffer too short\n\n",
+            "done 0\nmessage 8B 2A\n\n",
+            "table set\n\n",
+            "refused 28 table damaged\n\n",
+            "table 00\n\n",
+            "refused 28 table damaged\n\n",
+        ],
+    ),
+    // What is passed over counts; what isn't understood changes nothing.
+    (
+        &[
+            "# receive",
+            "",
+            " \t\r",
+            "  # x",
+            "receive 0B3",
+            "Table",
+            "buffer 301",
+            "release 0 0 0",
+            "\ttable  00\r",
+            "begin 59 -0 300604010F040141",
+            "begin 59 -129",
+            "release 256 0",
+        ],
+        &[
+            "line 5 not understood\n\n",
+            "line 6 not understood\n\n",
+            "line 7 not understood\n\n",
+            "line 8 not understood\n\n",
+            "table set\n\n",
+            "refused 28 table damaged\n\n",
+            "line 11 not understood\n\n",
+            "line 12 not understood\n\n",
+        ],
+    ),
+    // The other words.
+    (
+        &[
+            "receive 00 00",
+            "begin 60 1",
+            "invoke 0 0 59 1",
+            "begin 59 1",
+            "receive 0B3B1C00",
+            "result 0 0 5",
+            "invoke 0 0 10 1 0500",
+            "invoke 0 0 10 1 0500",
+        ],
+        &[
+            "verdict 7 other protocol\n\n",
+            "refused 20 not listed\n\n",
+            "refused 22 not open\n\n",
+            "refused 25 wrong parameter\n\n",
+            "verdict 0 taken\n\n",
+            "refused 24 no such invoke\n\n",
+            "done 0\nmessage 8B 3A 0A A1 08 02 01 01 02 01 0A\n 05 00\n\n",
+            "refused 23 still waiting\n\n",
+        ],
+    ),
+];
+
+#[test]
+fn by_hand() {
+    for (lines, expected) in WORKED {
+        let given = answers(lines.join("\n").as_bytes());
+        assert_eq!(String::from_utf8_lossy(&given), expected.concat());
+    }
+}
+
+/// Octets and lines at their limits, and the values that run out.
+#[test]
+fn by_hand_at_the_limits() {
+    let hex = |count: usize| "00".repeat(count);
+    let lines = [
+        format!("receive {}", hex(255)),
+        format!("receive {}", hex(256)),
+        format!("receive {}", hex(4_096)),
+        format!("receive {}", hex(4_097)),
+        format!("receive {}0", hex(4_096)),
+        format!("receive {}0Z", hex(4_096)),
+        format!("receive {}00Z", hex(4_096)),
+        format!("begin 10 1 04 82 01 00 {}", hex(256)),
+        format!("table {}", hex(300)),
+        format!("table {}", hex(301)),
+        format!("table {}", hex(4_097)),
+        format!("table {}", hex(70)),
+        format!("#{}", " ".repeat(16_383)),
+        format!("#{}", " ".repeat(16_384)),
+        format!("table {}", "0100000000".repeat(7)),
+        "begin 59 1".to_string(),
+        format!("table {} {}", "0100000000".repeat(7), hex(35)),
+        "begin 59 1".to_string(),
+    ];
+    let expected = "\
+verdict 7 other protocol
+
+verdict 6 too long
+
+verdict 6 too long
+
+line 4 too long
+
+line 5 not understood
+
+line 6 not understood
+
+line 7 too long
+
+refused 26 message too long
+
+table set
+
+line 10 not understood
+
+line 11 too long
+
+table set
+
+line 14 too long
+
+table set
+
+refused 28 table damaged
+
+table set
+
+refused 21 no value free
+
+";
+    let given = answers(lines.join("\n").as_bytes());
+    assert_eq!(String::from_utf8_lossy(&given), expected);
+}
+
+#[test]
+fn proved() {
+    for (lines, expected) in WORKED {
+        let given = compare(lines.join("\n").as_bytes());
+        assert_eq!(String::from_utf8_lossy(&given), expected.concat());
+    }
+}
