@@ -14,8 +14,7 @@ use Rattle.codes.specs.Ids.{idOf, octetOf}
 use Rattle.codes.specs.Operations.{begins}
 use Rattle.codes.specs.Errors.{listed}
 use Rattle.codes.proofs.IdLaws.{IsId, id-back}
-use Rattle.parameters.specs.Suits.{suits, noneOrOne}
-use Rattle.parameters.specs.declared.suits.Place.the-variants.{InvokeWritten, ResultWritten}
+use Rattle.parameters.specs.Suits.{suits, noneOrOne, InvokeWritten, ResultWritten}
 use Rattle.components.specs.Component.{invoke, error}
 use Rattle.components.specs.Written.{octets, answer, codedLength, answerLength}
 use Rattle.messages.specs.Layout.{sentFirst, register, facilityMessage, release}

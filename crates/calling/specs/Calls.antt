@@ -10,8 +10,7 @@ use lib.Dec.{leb}
 use Rattle.octets.specs.Reader.{Answer, fault, sound, andThen, check}
 use Rattle.codes.specs.Operations.{begins}
 use Rattle.codes.specs.Errors.{listed}
-use Rattle.parameters.specs.Suits.{suits, noneOrOne}
-use Rattle.parameters.specs.declared.suits.Place.the-variants.{InvokeWritten, ResultWritten}
+use Rattle.parameters.specs.Suits.{suits, noneOrOne, InvokeWritten, ResultWritten}
 use Rattle.components.specs.Component.{invoke, error}
 use Rattle.components.specs.Written.{octets, answer}
 use Rattle.messages.specs.Layout.{sentFirst, register, facilityMessage, release}

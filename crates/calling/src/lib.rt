@@ -1,5 +1,4 @@
 // Local calls: refused with a number, or ready to send. Nothing is written here.
-use parameters::suits::Place;
 use table::Invoke;
 use table::Named;
 use table::Slot;
@@ -66,7 +65,7 @@ pub fn decide_begin(table: &[u8], room: usize, operation: u8, id: i8, p: &[u8]) 
     let Named::At(v) = table::lowest_closed(table) else {
         return Call::Refused(21); // no own value closed
     };
-    if !parameters::suits::is_suited(Place::InvokeWritten, operation, p) {
+    if !parameters::suits::suits_invoke_written(operation, p) {
         return Call::Refused(25);
     }
     if 255 < p.len() {
@@ -120,7 +119,7 @@ pub fn decide_invoke(
     if judging::is_full(own) {
         return Call::Refused(23); // own invoke outstanding
     }
-    if !parameters::suits::is_suited(Place::InvokeWritten, operation, p) {
+    if !parameters::suits::suits_invoke_written(operation, p) {
         return Call::Refused(25);
     }
     if 255 < p.len() {
@@ -162,7 +161,7 @@ pub fn decide_result(table: &[u8], room: usize, flag: u8, value: u8, id: i8, p: 
         return Call::Refused(24); // no such peer invoke
     }
     let answered = judging::waiting_operation(id, asked);
-    if !parameters::suits::is_suited(Place::ResultWritten, answered, p) {
+    if !parameters::suits::suits_result_written(answered, p) {
         return Call::Refused(25); // parameter of the result
     }
     if 255 < p.len() {

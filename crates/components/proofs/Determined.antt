@@ -6,11 +6,13 @@ use mathlib.Core.Option.{Option, none, some}
 use native.Mathlib.Omega.{arith}
 use lib.IntN.{ℤ}
 use lib.ListN.{length, drop, length-drop}
+use Rattle.parameters.specs.declared.text.Ussd.{Ussd}
+use Rattle.parameters.proofs.Determined.{ussd-determined}
 use Rattle.places.specs.Seen.{idSeen, last}
 use Rattle.places.specs.declared.Id.{Id}
-use Rattle.components.specs.Component.{Component, invoke, result, error, reject}
+use Rattle.components.specs.Component.{Component, invoke, result, error, reject, parameterOf}
 use Rattle.components.specs.Facility.{Finding, empty, shows, general, leftOver, faultyReject}
-use Rattle.components.specs.Seen.{operationSeen, shownSeen, parameterLength, readingSeen, ReadingWithin}
+use Rattle.components.specs.Seen.{operationSeen, shownSeen, TextTold, parameterLength, readingSeen, ReadingWithin}
 use Rattle.components.specs.declared.shown.Operation.{Operation}
 use Rattle.components.specs.declared.shown.Shown.{Shown}
 use Rattle.components.specs.declared.shown.Shown.the-variants.{Invoke, Result, Error, Reject}
@@ -61,6 +63,9 @@ reading-of s (Reading.Shows r) h = ap Reading.Shows (shown-of s r h)
 reading-of s (Reading.General n i) h = rw (id-of i)
 reading-of s Reading.LeftOver h = refl
 reading-of s Reading.FaultyReject h = refl
+
+pub text-determined : (c : Component) (t u : Ussd) → TextTold c t → TextTold c u → t ≡ u
+text-determined c t u a b = ussd-determined (parameterOf c) t u (a .1) (b .1) (a .0 ∙ sym (b .0))
 
 pub reading-determined : (s : List ℕ) (r q : Reading) → ReadingWithin s r → ReadingWithin s q → readingSeen s r ≡ readingSeen s q → r ≡ q
 reading-determined s r q a b e = sym (reading-of s r a) ∙ ap unReading e ∙ reading-of s q b

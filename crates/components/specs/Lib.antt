@@ -3,3 +3,4 @@ pub mod Facility
 pub mod Written
 pub mod LaterEdition
 pub mod Seen
+pub mod Texts

@@ -7,10 +7,13 @@ use lib.ListN.{length}
 use lib.Dec.{eqb}
 use Rattle.octets.specs.Reader.{Answer, fault, sound}
 use Rattle.elements.specs.Element.{unreadable}
+use Rattle.parameters.specs.Seen.{TextSeen}
+use Rattle.parameters.specs.declared.text.Ussd.{Ussd}
 use Rattle.places.specs.Seen.{idSeen, last}
 use Rattle.places.specs.declared.Id.{Id}
-use Rattle.components.specs.Component.{Component, invoke, result, error, reject, rejectTag}
+use Rattle.components.specs.Component.{Component, invoke, result, error, reject, parameterOf, rejectTag}
 use Rattle.components.specs.Facility.{Finding, empty, shows, general, leftOver, faultyReject}
+use Rattle.components.specs.Texts.{extensible}
 use Rattle.components.specs.declared.shown.Operation.{Operation}
 use Rattle.components.specs.declared.shown.Shown.{Shown}
 use Rattle.components.specs.declared.shown.Shown.the-variants.{Invoke, Result, Error, Reject}
@@ -26,6 +29,10 @@ shownSeen s (Invoke id linked operation n) = invoke id (idSeen linked) operation
 shownSeen s (Result id operation n) = result id (operationSeen operation) (last n s)
 shownSeen s (Error id code n) = error id code (last n s)
 shownSeen s (Reject id tag problem) = reject (idSeen id) tag problem
+
+-- the text that a component is told with: that of its parameter, where it carries one
+abbrev pub TextTold : Component → Ussd → Type 0
+TextTold c text = TextSeen (extensible c) (parameterOf c) text
 
 -- how many octets of the part the parameter takes
 abbrev pub parameterLength : Shown → ℕ

@@ -11,10 +11,10 @@ use Rattle.places.specs.Seen.{idSeen}
 use Rattle.places.specs.declared.Id.{Id}
 use Rattle.components.specs.Component.{Component}
 use Rattle.components.specs.Facility.{general, shows}
-use Rattle.components.specs.Seen.{shownSeen, parameterLength}
+use Rattle.components.specs.Seen.{shownSeen, TextTold, parameterLength}
 use Rattle.components.specs.declared.shown.Shown.{Shown}
 use Rattle.components.specs.declared.facility.Reading.{Reading}
-use Rattle.components.proofs.Determined.{reading-determined}
+use Rattle.components.proofs.Determined.{reading-determined, text-determined}
 use Rattle.messages.proofs.Determined.{part-determined}
 use Rattle.table.specs.Table.{Entry}
 use Rattle.table.proofs.Determined.{slot-determined}
@@ -42,15 +42,17 @@ some-inj e = cc
 
 told-determined : (s : List ℕ) (r q : Told) → ToldWithin s r → ToldWithin s q → toldSeen s r ≡ toldSeen s q → r ≡ q
 told-determined s Told.Nothing Told.Nothing a b e = refl
-told-determined s Told.Nothing (Told.Is q j) a b e = cc
-told-determined s (Told.Is r i) Told.Nothing a b e = cc
-told-determined s (Told.Is r i) (Told.Is q j) a b e =
+told-determined s Told.Nothing (Told.Is q j u) a b e = cc
+told-determined s (Told.Is r i t) Told.Nothing a b e = cc
+told-determined s (Told.Is r i t) (Told.Is q j u) a b e =
     let g = some-inj e in
     let x : i ≡ j = omega (arith, simp length-drop at (ap (λ (h : Taken Component). length (h .rest)) g)) in
     let f : shownSeen (take j s) r ≡ shownSeen (take j s) q = rw x at (ap (λ (h : Taken Component). h .value) g) in
     let k : length (take j s) ≡ j = rw (length-take j s) (omega arith) in
     let y = shown-determined (take j s) r q (omega arith) (omega arith) f in
-    λ n. Told.Is (y n) (x n)
+    let z : TextTold (shownSeen (take j s) q) t = rw (sym f, sym x) (a .1) in
+    let v = text-determined (shownSeen (take j s) q) t u z (b .1) in
+    λ n. Told.Is (y n) (x n) (v n)
 
 reject-inj : {i j : Option ℤ} {t u n m : ℕ} → withReject i t n ≡ withReject j u m → (i ≡ j) × (t ≡ u) × (n ≡ m)
 reject-inj e = (cc, cc, cc)

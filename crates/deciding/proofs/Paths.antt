@@ -17,7 +17,8 @@ use Rattle.codes.specs.Problems.{general as generalTag}
 use Rattle.codes.proofs.IdLaws.{IsId, id-back}
 use Rattle.places.specs.Seen.{last}
 use Rattle.places.proofs.Left.{last-part, last-taken}
-use Rattle.components.specs.Component.{invoke, result, error, reject}
+use Rattle.components.specs.Component.{Component, invoke, result, error, reject, parameterOf}
+use Rattle.components.specs.Texts.{extensible}
 use Rattle.components.specs.Facility.{empty, shows, general, leftOver, faultyReject, facility}
 use Rattle.components.specs.Seen.{shownSeen, parameterLength}
 use Rattle.components.specs.declared.shown.Shown.{Shown}
@@ -30,6 +31,8 @@ use Rattle.messages.specs.declared.layout.MessageType.the-variants.{ReleaseComp
 use Rattle.table.specs.Table.{Entry, entryAt, valid}
 use Rattle.table.proofs.TableLaws.{valid-each}
 use Rattle.judging.specs.StepSix.{Judged, judgeInvoke, judgeResult, judgeError}
+use Rattle.judging.specs.Seen.{VerdictText}
+use Rattle.judging.specs.declared.Verdict.{Verdict}
 use Rattle.deciding.specs.Decision.{Decision, Shows, silent, withCause, withReject, onReject, released, taken, shownBy}
 use Rattle.deciding.specs.Steps.{shown, onJudged, stepSix, opened, stepFive, stepFour, exceptInvoke, onRelease, byType, stepTwo, firstOf, entryOf, replyFirst, decide}
 use Rattle.deciding.specs.Seen.{toldSeen, actSeen, ActWithin, decisionSeen, DecisionWithin, fromEntry, Ready}
@@ -44,6 +47,25 @@ shown-part (Invoke id linked operation n) s a e h l k = rw (last-part s a e n h 
 shown-part (Result id operation n) s a e h l k = rw (last-part s a e n h l k)
 shown-part (Error id code n) s a e h l k = rw (last-part s a e n h l k)
 shown-part (Reject id tag problem) s a e h l k = refl
+
+-- a text is told of a component whatever its id is, and wherever its parameter was found
+same-text : (c d : Component) (v : Verdict) → extensible d ≡ extensible c → parameterOf d ≡ parameterOf c → VerdictText c v → VerdictText d v
+same-text c d (Verdict.Problem tag number) e p h = tt
+same-text c d (Verdict.Accepted slot text) e p h = rw (e, p) h
+
+result-carries : (i j : ℤ) (o : Option ℕ) (p q : List ℕ) → extensible (result i o p) ≡ extensible (result j o q)
+result-carries i j none p q = refl
+result-carries i j (some o) p q = refl
+
+module _ (v : Verdict) (i j : ℤ) (s : List ℕ) (end m n : ℕ) (k : m ≡ n) (h : n ≤ end) (l : end ≤ length s) where
+  pub invoke-text : (linked : Option ℤ) (o : ℕ) → VerdictText (invoke j linked o (between (end - m) end s)) v → VerdictText (invoke i linked o (last n (take end s))) v
+  invoke-text linked o t = same-text _ _ v refl (rw k (sym (last-taken s end n h l))) t
+
+  pub result-text : (o : Option ℕ) → VerdictText (result j o (between (end - m) end s)) v → VerdictText (result i o (last n (take end s))) v
+  result-text o t = same-text _ _ v (result-carries i j o (last n (take end s)) (between (end - m) end s)) (rw k (sym (last-taken s end n h l))) t
+
+pub error-text : (v : Verdict) (i j : ℤ) (code : ℕ) (p : List ℕ) → VerdictText (error j code p) v → VerdictText (error i code p) v
+error-text v i j code p t = same-text (error j code p) (error i code p) v refl refl t
 
 -- step 6: the id as the code hands it on, and the parameter as the octets before the end
 module _ (e : Entry) (s : List ℕ) (end : ℕ) {id : ℤ} (i : IsId id) (v : Judged) (d : Decision) where

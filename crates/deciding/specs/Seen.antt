@@ -6,28 +6,32 @@ use mathlib.Core.Bool.{Bool, true, false, cond}
 use mathlib.Core.Option.{Option, none, some}
 use lib.ListN.{length, getD, take, drop}
 use lib.Dec.{eqb}
+use Rattle.octets.specs.Part.{between}
 use Rattle.octets.specs.Reader.{Taken}
 use Rattle.places.specs.Seen.{idSeen}
 use Rattle.components.specs.Component.{Component}
-use Rattle.components.specs.Seen.{shownSeen, parameterLength}
+use Rattle.components.specs.Seen.{shownSeen, TextTold, parameterLength}
+use Rattle.components.specs.Facility.{facility}
 use Rattle.messages.specs.Layout.{value, flag}
+use Rattle.messages.specs.Scan.{firstTaken}
 use Rattle.messages.specs.Seen.{partSeen, PartWithin}
-use Rattle.table.specs.Table.{imageLength, entryAt}
+use Rattle.table.specs.Table.{Entry, imageLength, entryAt}
 use Rattle.table.specs.Seen.{slotSeen}
-use Rattle.deciding.specs.Decision.{Shows, silent, withCause, withReject, onReject, released, taken}
+use Rattle.deciding.specs.Decision.{Shows, shownBy, silent, withCause, withReject, onReject, released, taken}
 use Rattle.deciding.specs.Decision as spec
-use Rattle.deciding.specs.Steps.{stepTwo, firstOf, entryOf}
+use Rattle.deciding.specs.Steps.{stepFive, exceptInvoke, stepTwo, firstOf, entryOf}
 use Rattle.deciding.specs.declared.Told.{Told}
 use Rattle.deciding.specs.declared.Act.{Act}
+use Rattle.deciding.specs.declared.Course.{Course}
 use Rattle.deciding.specs.declared.Decision.{Decision}
 
 abbrev pub toldSeen : List ℕ → Told → Shows
 toldSeen s Told.Nothing = none
-toldSeen s (Told.Is shown end) = some (record { value = shownSeen (take end s) shown; rest = drop end s })
+toldSeen s (Told.Is shown end text) = some (record { value = shownSeen (take end s) shown; rest = drop end s })
 
 abbrev pub ToldWithin : List ℕ → Told → Type 0
 ToldWithin s Told.Nothing = Unit {0}
-ToldWithin s (Told.Is shown end) = (parameterLength shown ≤ end) × (end ≤ length s)
+ToldWithin s (Told.Is shown end text) = ((parameterLength shown ≤ end) × (end ≤ length s)) × TextTold (shownSeen (take end s) shown) text
 
 abbrev pub actSeen : List ℕ → Act → Shows → spec.Decision
 actSeen s (Act.Silent code) shown = silent code
@@ -51,6 +55,17 @@ ActWithin s (Act.Taken slot) told = Unit {0}
 
 abbrev pub DecisionWithin : List ℕ → Decision → Type 0
 DecisionWithin s d = ToldWithin s (d .told) × ActWithin s (d .act) (d .told)
+
+-- a decision from what the Facility value was weighed to be: a RELEASE COMPLETE only shows it
+abbrev pub onWeighed : Bool → List ℕ → spec.Decision → spec.Decision
+onWeighed false s d = d
+onWeighed true s d = released (exceptInvoke (shownBy d)) (firstTaken 0x08 s)
+
+-- what is left to do leads to this decision
+abbrev pub CourseSeen : Entry → List ℕ → Course → spec.Decision → Type 0
+CourseSeen e s (Course.Ends act) d = (actSeen s act none ≡ d) × ActWithin s act Told.Nothing
+CourseSeen e s (Course.Weighs start end release) d =
+    ((start ≤ end) × (end ≤ length s)) × (onWeighed release s (stepFive e (facility (between start end s)) (drop end s)) ≡ d)
 
 abbrev pub showsNothing : Act → Decision
 showsNothing act = record { act = act; told = Told.Nothing }

@@ -5,6 +5,7 @@ use judging::Verdict;
 use messages::layout::Body;
 use messages::layout::MessageType;
 use messages::scan::Part;
+use parameters::text::Ussd;
 use places::Id;
 use table::Slot;
 ghost use mathlib.Core.Path.{_≡_};
@@ -15,15 +16,22 @@ ghost use Rattle.octets.specs.Part.{between};
 ghost use Rattle.components.specs.Facility.{facility};
 ghost use Rattle.components.specs.Seen.{shownSeen, parameterLength};
 ghost use Rattle.messages.specs.Layout.{value};
+ghost use Rattle.messages.specs.Scan.{firstTaken};
+ghost use Rattle.table.specs.Table.{Entry, valid};
 ghost use Rattle.table.specs.Seen.{slotSeen};
-ghost use Rattle.judging.specs.Seen.{verdictSeen};
+ghost use Rattle.judging.specs.Seen.{verdictSeen, VerdictText};
+ghost use Rattle.deciding.specs.Decision.{released};
 ghost use Rattle.deciding.specs.Steps.{onJudged, stepSix, stepFive, stepFour, exceptInvoke, onRelease, stepTwo, firstOf, entryOf, replyFirst, decide};
-ghost use Rattle.deciding.specs.Seen.{toldSeen, ToldWithin, decisionSeen, DecisionWithin, showsNothing, isSilent, fromEntry, Ready};
+ghost use Rattle.deciding.specs.Seen.{toldSeen, ToldWithin, decisionSeen, DecisionWithin, CourseSeen, showsNothing, isSilent, fromEntry, Ready};
 
-// A component that is shown, and where its Facility value ends.
+// A component that is shown, where its Facility value ends, and the text that it carries.
 pub enum Told {
     Nothing,
-    Is { shown: Shown, end: usize },
+    Is {
+        shown: Shown,
+        end: usize,
+        text: Ussd,
+    },
 }
 
 // One verdict's case each, and what is needed to act on it.
@@ -54,7 +62,7 @@ fn untold(act: Act) -> Decision
 
 // Step 6's answer.
 fn rule(s: &[u8], verdict: Verdict, id: i8, shown: Shown, end: usize) -> Decision
-    requires { ⌜ (parameterLength shown ≤ end) × (end ≤ length (now s)) ⌝ }
+    requires { ⌜ ((parameterLength shown ≤ end) × (end ≤ length (now s))) × VerdictText (shownSeen (take end (now s)) shown) verdict ⌝ }
     ensures decides { λ r. ⌜ decisionSeen (now (s .entry)) r ≡ onJudged (verdictSeen verdict) id (shownSeen (take end (now (s .entry))) shown) (drop end (now (s .entry))) ⌝ }
     ensures within { λ r. ⌜ DecisionWithin (now (s .entry)) r ⌝ }
 {
@@ -66,12 +74,13 @@ fn rule(s: &[u8], verdict: Verdict, id: i8, shown: Shown, end: usize) -> Decisio
                 number: number,
             });
         }
-        Verdict::Accepted(slot) => {
+        Verdict::Accepted { slot, text } => {
             return Decision {
                 act: Act::Taken(slot),
                 told: Told::Is {
                     shown: shown,
                     end: end,
+                    text: text,
                 },
             };
         }
@@ -121,6 +130,7 @@ fn weigh_component(slot: Slot, shown: Shown, s: &[u8], end: usize) -> Decision
                 told: Told::Is {
                     shown: shown,
                     end: end,
+                    text: Ussd::Refused,
                 },
             };
         }
@@ -162,24 +172,18 @@ fn weigh(slot: Slot, s: &[u8], start: usize, end: usize) -> Decision
     }
 }
 
-// Step 4: the mandatory part and what must be understood, for REGISTER and FACILITY.
-fn decide_required(slot: Slot, s: &[u8], kind: u8) -> Decision
-    ensures decides { λ r. ⌜ decisionSeen (now (s .entry)) r ≡ stepFour (slotSeen slot) kind (now (s .entry)) ⌝ }
-    ensures within { λ r. ⌜ DecisionWithin (now (s .entry)) r ⌝ }
-{
-    let Body::Facility { start, end } = messages::scan::read_required(s, kind) else {
-        return untold(Act::WithCause(96));
-    };
-    weigh(slot, s, start, end)
-}
-
 // A RELEASE COMPLETE shows no Invoke.
 fn except_invoke(s: &[u8], told: Told) -> Told
     requires { ⌜ ToldWithin (now s) told ⌝ }
     ensures shows { λ r. ⌜ toldSeen (now (s .entry)) r ≡ exceptInvoke (toldSeen (now (s .entry)) told) ⌝ }
     ensures within { λ r. ⌜ ToldWithin (now (s .entry)) r ⌝ }
 {
-    let Told::Is { shown, end: _ } = told else {
+    let Told::Is {
+        shown,
+        end: _,
+        text: _,
+    } = told
+    else {
         return Told::Nothing;
     };
     match shown {
@@ -215,52 +219,108 @@ fn except_invoke(s: &[u8], told: Told) -> Told
     }
 }
 
-// RELEASE COMPLETE of an open entry.
-fn decide_release(slot: Slot, s: &[u8]) -> Decision
-    ensures decides { λ r. ⌜ decisionSeen (now (s .entry)) r ≡ onRelease (slotSeen slot) (now (s .entry)) ⌝ }
+// RELEASE COMPLETE of an open entry, with what its Facility value was weighed to show.
+fn release(s: &[u8], told: Told) -> Decision
+    requires { ⌜ ToldWithin (now s) told ⌝ }
+    ensures decides { λ r. ⌜ decisionSeen (now (s .entry)) r ≡ released (exceptInvoke (toldSeen (now (s .entry)) told)) (firstTaken 0x08 (now (s .entry))) ⌝ }
     ensures within { λ r. ⌜ DecisionWithin (now (s .entry)) r ⌝ }
 {
-    let cause = messages::scan::find(s, 0x08);
-    let Part::Between { start, end } = messages::scan::find(s, 0x1C) else {
-        return untold(Act::Released(cause));
-    };
-    let decision = weigh(slot, s, start, end);
-    let told = decision.told;
     Decision {
-        act: Act::Released(cause),
+        act: Act::Released(messages::scan::find(s, 0x08)),
         told: except_invoke(s, told),
     }
 }
 
+// What steps 2 to 4 leave to do: nothing more, or a Facility value to weigh, which in a RELEASE COMPLETE is only shown.
+pub enum Course {
+    Ends(Act),
+    Weighs {
+        start: usize,
+        end: usize,
+        release: bool,
+    },
+}
+
+// Step 4: the mandatory part and what must be understood, for REGISTER and FACILITY.
+fn course_required(s: &[u8], kind: u8) -> Course
+    ensures { λ r. ⌜ ((e : Entry) → CourseSeen e (now (s .entry)) r (stepFour e kind (now (s .entry)))) ⌝ }
+{
+    let Body::Facility { start, end } = messages::scan::read_required(s, kind) else {
+        return Course::Ends(Act::WithCause(96));
+    };
+    Course::Weighs {
+        start: start,
+        end: end,
+        release: false,
+    }
+}
+
+// The Facility value of a RELEASE COMPLETE, if it has one.
+fn course_released(s: &[u8]) -> Course
+    ensures { λ r. ⌜ ((e : Entry) → CourseSeen e (now (s .entry)) r (onRelease e (now (s .entry)))) ⌝ }
+{
+    let Part::Between { start, end } = messages::scan::find(s, 0x1C) else {
+        return Course::Ends(Act::Released(messages::scan::find(s, 0x08)));
+    };
+    Course::Weighs {
+        start: start,
+        end: end,
+        release: true, // only to be shown
+    }
+}
+
 // Steps 2 and 3, by the message's type and whether the entry is open.
-fn decide_by_type(slot: Slot, flag: u8, kind: u8, s: &[u8]) -> Decision
-    ensures decides { λ r. ⌜ decisionSeen (now (s .entry)) r ≡ stepTwo (slotSeen slot) flag kind (now (s .entry)) ⌝ }
-    ensures within { λ r. ⌜ DecisionWithin (now (s .entry)) r ⌝ }
+fn course_of(slot: Slot, flag: u8, kind: u8, s: &[u8]) -> Course
+    ensures { λ r. ⌜ CourseSeen (slotSeen slot) (now (s .entry)) r (stepTwo (slotSeen slot) flag kind (now (s .entry))) ⌝ }
 {
     match messages::layout::type_of(kind) {
         MessageType::ReleaseComplete => {
             if !slot.open {
-                return untold(Act::Silent(1));
+                return Course::Ends(Act::Silent(1));
             }
-            return decide_release(slot, s);
+            return course_released(s);
         }
         MessageType::Facility => {
             if !slot.open {
-                return untold(Act::WithCause(81));
+                return Course::Ends(Act::WithCause(81));
             }
-            return decide_required(slot, s, 0x3A);
+            return course_required(s, 0x3A);
         }
         MessageType::Register => {
             if slot.open {
-                return untold(Act::WithCause(98));
+                return Course::Ends(Act::WithCause(98));
             }
             if flag == 1 {
-                return untold(Act::Silent(1));
+                return Course::Ends(Act::Silent(1));
             }
-            return decide_required(slot, s, 0x3B);
+            return course_required(s, 0x3B);
         }
         MessageType::Unknown => {
-            return untold(Act::WithCause(97));
+            return Course::Ends(Act::WithCause(97));
+        }
+    }
+}
+
+// Steps 2 to 6. There is one place where a Facility value is weighed, so that it is compiled into its caller.
+fn decide_by_type(slot: Slot, flag: u8, kind: u8, s: &[u8]) -> Decision
+    ensures decides { λ r. ⌜ decisionSeen (now (s .entry)) r ≡ stepTwo (slotSeen slot) flag kind (now (s .entry)) ⌝ }
+    ensures within { λ r. ⌜ DecisionWithin (now (s .entry)) r ⌝ }
+{
+    match course_of(slot, flag, kind, s) {
+        Course::Ends(act) => {
+            return untold(act);
+        }
+        Course::Weighs {
+            start,
+            end,
+            release: only_shown,
+        } => {
+            let decision = weigh(slot, s, start, end);
+            if !only_shown {
+                return decision;
+            }
+            let told = decision.told;
+            return release(s, told);
         }
     }
 }
@@ -318,13 +378,23 @@ fn decide_entry(table: &[u8], message: &[u8]) -> Decision
     )
 }
 
+// Whether the image is not damaged. Most messages find it as at the start, and that is told without a call.
+fn is_readable(table: &[u8]) -> bool
+    ensures { λ r. ⌜ r ≡ valid (now (table .entry)) ⌝ }
+{
+    if table::is_new(table) {
+        return true;
+    }
+    table::is_valid(table)
+}
+
 // 28 and 27, then the steps.
 pub fn decide(table: &[u8], message: &[u8], room: usize) -> Decision
     ensures decides { λ r. ⌜ decisionSeen (drop 2 (now (message .entry))) r ≡ decide (now (table .entry)) (now (message .entry)) room ⌝ }
     ensures within { λ r. ⌜ DecisionWithin (drop 2 (now (message .entry))) r ⌝ }
     ensures ready { λ r. ⌜ (isSilent r ≡ false → Ready (now (table .entry)) (now (message .entry)) room) ⌝ }
 {
-    if !table::is_valid(table) {
+    if !is_readable(table) {
         return untold(Act::Silent(28));
     }
     if room < 12 {

@@ -2,15 +2,23 @@
 use Prim.Native.Nat.{ℕ}
 use mathlib.Core.Path.{_≡_, refl, ap, _∙_}
 use mathlib.Core.List.{List, [], _∷_}
-use mathlib.Core.Bool.{Bool, true, false, cond, _||_}
+use mathlib.Core.Bool.{Bool, true, false, cond, _&&_, _||_}
+use mathlib.Core.Option.{Option, none, some}
 use native.Mathlib.Omega.{arith}
 use lib.IntN.{ℤ}
+use lib.Dec.{eqb}
+use borrow.Author.Tests.{eqb-true}
 use Rattle.codes.specs.Ids.{idOf, octetOf}
 use Rattle.codes.proofs.IdLaws.{IsId, id-back}
+use Rattle.parameters.specs.Seen.{TextSeen}
+use Rattle.parameters.specs.declared.text.Ussd.{Ussd}
+use Rattle.components.specs.Component.{result}
+use Rattle.components.specs.Seen.{TextTold}
 use Rattle.table.specs.Table.{Waiting}
 use Rattle.table.specs.Seen.{invokeSeen}
 use Rattle.table.specs.declared.Invoke.{Invoke}
-use Rattle.judging.specs.StepSix.{sameId, among, full, operationOf, without}
+use Rattle.judging.specs.StepSix.{sameId, among, full, operationOf, without, isOurs}
+use Rattle.judging.specs.Seen.{toldText}
 
 -- an id as the code hands it on
 pub among-is : {b : Bool} {id : ℤ} (ws : List Waiting) → IsId id → b ≡ among (idOf (octetOf id)) ws → b ≡ among id ws
@@ -22,6 +30,17 @@ operation-is ws h e = e ∙ ap (λ (i : ℤ). operationOf i ws) (id-back h)
 pub or-none : (b : Bool) → b ≡ b || false
 or-none true = refl
 or-none false = refl
+
+pub both-ours : (a b : Bool) → a && b ≡ true → a ≡ true
+both-ours true b e = refl
+both-ours false b e = e
+
+-- a result that tells our operation is told with the text that was read for ours
+pub told-is : (id : ℤ) (o : Option ℕ) (ours : ℕ) (p : List ℕ) (t : Ussd) → isOurs o ours ≡ true → TextSeen (eqb ours 59) p t
+    → TextTold (result id o p) (toldText o t)
+unfolding isOurs
+told-is id none ours p t e h = (refl, tt)
+told-is id (some o) ours p t e h = rw (eqb-true o ours e) h
 
 -- where none waits there is room
 pub room : (w : Invoke) → full (invokeSeen w) ≡ false → invokeSeen w ≡ []

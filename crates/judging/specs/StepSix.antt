@@ -9,8 +9,7 @@ use Rattle.codes.specs.Ids.{octetOf}
 use Rattle.codes.specs.Operations.{serves, waits}
 use Rattle.codes.specs.Errors.{listed}
 use Rattle.codes.specs.Problems.{invoke, result, error}
-use Rattle.parameters.specs.Suits.{suits}
-use Rattle.parameters.specs.declared.suits.Place.the-variants.{InvokeReceived, ResultReceived}
+use Rattle.parameters.specs.Suits.{suits, InvokeReceived, ResultReceived}
 use Rattle.table.specs.Table.{Waiting, Entry}
 
 -- a problem, to be told under its tag, or the entry as it becomes

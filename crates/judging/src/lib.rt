@@ -1,19 +1,23 @@
 // Step 6: a component held against the entry of its transaction.
 use components::shown::Operation;
-use parameters::suits::Place;
+use parameters::text::Ussd;
 use places::Id;
 use table::Invoke;
 use table::Slot;
+ghost use Prim.Native.Nat.{ℕ};
 ghost use mathlib.Core.Path.{_≡_};
+ghost use mathlib.Core.List.{List};
 ghost use Rattle.places.specs.Seen.{idSeen};
+ghost use Rattle.components.specs.Component.{invoke, result, error};
 ghost use Rattle.components.specs.Seen.{operationSeen};
 ghost use Rattle.table.specs.Seen.{invokeSeen, slotSeen};
 ghost use Rattle.judging.specs.StepSix.{among, full, operationOf, judgeInvoke, judgeResult, judgeError, isOurs, linkedProblem, withOne};
-ghost use Rattle.judging.specs.Seen.{verdictSeen, linkedSeen, linkedNumber};
+ghost use Rattle.judging.specs.Seen.{verdictSeen, VerdictText, toldText, linkedSeen, linkedNumber};
 
+// What is accepted comes with the entry as it becomes, and the text that was read.
 pub enum Verdict {
     Problem { tag: u8, number: u8 },
-    Accepted(Slot),
+    Accepted { slot: Slot, text: Ussd },
 }
 
 pub enum Linked {
@@ -126,7 +130,8 @@ fn with_peer(own: Invoke, id: i8, operation: u8) -> Slot
 
 // An Invoke.
 pub fn judge_invoke(slot: Slot, id: i8, linked: Id, operation: u8, p: &[u8]) -> Verdict
-    ensures { λ r. ⌜ verdictSeen r ≡ judgeInvoke (slotSeen slot) id (idSeen linked) operation (now (p .entry)) ⌝ }
+    ensures judges { λ r. ⌜ verdictSeen r ≡ judgeInvoke (slotSeen slot) id (idSeen linked) operation (now (p .entry)) ⌝ }
+    ensures text { λ r. ⌜ VerdictText (invoke id (idSeen linked) operation (now (p .entry))) r ⌝ }
 {
     let own = slot.own;
     let peer = slot.peer;
@@ -155,13 +160,18 @@ pub fn judge_invoke(slot: Slot, id: i8, linked: Id, operation: u8, p: &[u8]) -> 
             number: linked_number(told),
         };
     };
-    if !parameters::suits::is_suited(Place::InvokeReceived, operation, p) {
+    let read = parameters::suits::suits_invoke_received(operation, p);
+    if !read.suited {
         return Verdict::Problem {
             tag: 0x81,
             number: 2,
         };
     }
-    Verdict::Accepted(with_peer(own, id, operation))
+    let text = read.text;
+    Verdict::Accepted {
+        slot: with_peer(own, id, operation),
+        text: text,
+    }
 }
 
 // Whether an operation that is told is ours.
@@ -178,9 +188,24 @@ fn is_ours(operation: Operation, ours: u8) -> bool
     }
 }
 
+// The text of a result that tells its operation.
+fn told_text(operation: Operation, text: Ussd) -> Ussd
+    ensures { λ r. ⌜ r ≡ toldText (operationSeen operation) text ⌝ }
+{
+    match operation {
+        Operation::Absent => {
+            return Ussd::Refused;
+        }
+        Operation::Is(_) => {
+            return text;
+        }
+    }
+}
+
 // A Return result.
 pub fn judge_result(slot: Slot, id: i8, operation: Operation, p: &[u8]) -> Verdict
-    ensures { λ r. ⌜ verdictSeen r ≡ judgeResult (slotSeen slot) id (operationSeen operation) (now (p .entry)) ⌝ }
+    ensures judges { λ r. ⌜ verdictSeen r ≡ judgeResult (slotSeen slot) id (operationSeen operation) (now (p .entry)) ⌝ }
+    ensures text { λ r. ⌜ VerdictText (result id (operationSeen operation) (now (p .entry))) r ⌝ }
 {
     let own = slot.own;
     let peer = slot.peer;
@@ -191,22 +216,28 @@ pub fn judge_result(slot: Slot, id: i8, operation: Operation, p: &[u8]) -> Verdi
         };
     }
     let ours = waiting_operation(id, own);
-    if !(is_ours(operation, ours) & parameters::suits::is_suited(Place::ResultReceived, ours, p)) {
+    let read = parameters::suits::suits_result_received(ours, p);
+    if !(is_ours(operation, ours) & read.suited) {
         return Verdict::Problem {
             tag: 0x82,
             number: 2,
         };
     }
-    Verdict::Accepted(Slot {
-        open: slot.open,
-        own: Invoke::Absent,
-        peer: peer,
-    })
+    let text = read.text;
+    Verdict::Accepted {
+        slot: Slot {
+            open: slot.open,
+            own: Invoke::Absent,
+            peer: peer,
+        },
+        text: told_text(operation, text),
+    }
 }
 
 // A Return error.
 pub fn judge_error(slot: Slot, id: i8, code: u8) -> Verdict
-    ensures { λ r. ⌜ verdictSeen r ≡ judgeError (slotSeen slot) id code ⌝ }
+    ensures judges { λ r. ⌜ verdictSeen r ≡ judgeError (slotSeen slot) id code ⌝ }
+    ensures text { λ r. ⌜ ((p : List ℕ) → VerdictText (error id code p) r) ⌝ }
 {
     let own = slot.own;
     let peer = slot.peer;
@@ -222,9 +253,12 @@ pub fn judge_error(slot: Slot, id: i8, code: u8) -> Verdict
             number: 2,
         };
     }
-    Verdict::Accepted(Slot {
-        open: slot.open,
-        own: Invoke::Absent,
-        peer: peer,
-    })
+    Verdict::Accepted {
+        slot: Slot {
+            open: slot.open,
+            own: Invoke::Absent,
+            peer: peer,
+        },
+        text: Ussd::Refused,
+    }
 }

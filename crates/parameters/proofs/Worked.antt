@@ -8,7 +8,7 @@ use Rattle.octets.specs.Reader.{took}
 use Rattle.elements.specs.Element.{lengthOf, element, rowOf, row}
 use Rattle.parameters.specs.Parameter.{string, text, ussdContents, ussd, guidance, password, serviceCode, ssForBsContents, ssForBs}
 use Rattle.parameters.specs.Suits.{isUssd, suitsInvokeReceived, suitsResultReceived, suitsInvokeWritten, suitsResultWritten, suits}
-use Rattle.parameters.specs.declared.suits.Place.the-variants.{InvokeReceived, ResultReceived, InvokeWritten, ResultWritten}
+use Rattle.parameters.specs.Suits.{InvokeReceived, ResultReceived, InvokeWritten, ResultWritten}
 
 -- a USSD parameter with one octet of text and no tail
 abbrev pub menu : List ℕ

@@ -5,8 +5,6 @@ use mathlib.Core.Bool.{Bool, false, cond, _&&_, _||_}
 use lib.Dec.{leb, eqb}
 use Rattle.octets.specs.Reader.{isEmpty}
 use Rattle.parameters.specs.Parameter.{isSound, one, ussd, guidance, password, serviceCode, ssForBs}
-use Rattle.parameters.specs.declared.suits.Place.{Place}
-use Rattle.parameters.specs.declared.suits.Place.the-variants.{InvokeReceived, ResultReceived, InvokeWritten, ResultWritten}
 
 abbrev pub anyOne : List ℕ → Bool
 anyOne p = isSound (one p)
@@ -52,6 +50,10 @@ suitsResultWritten operation p =
     cond (eqb operation 18) (password p)
     (cond (eqb operation 60) (noneOrUssd p)
     (eqb operation 61 && isEmpty p))
+
+-- the four places
+pub data Place : Type 0 where
+  InvokeReceived ResultReceived InvokeWritten ResultWritten : Place
 
 unfoldable pub suits : Place → ℕ → List ℕ → Bool
 suits InvokeReceived operation p = suitsInvokeReceived operation p

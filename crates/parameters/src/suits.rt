@@ -1,12 +1,15 @@
 // Which parameter an operation takes, in each of the places where a parameter stands.
+use super::text::Ussd;
 ghost use mathlib.Core.Path.{_≡_};
-ghost use Rattle.parameters.specs.Suits.{suits, suitsInvokeReceived, suitsResultReceived, suitsInvokeWritten, suitsResultWritten, noneOrOne, noneOrUssd};
+ghost use mathlib.Core.Bool.{true, _||_};
+ghost use lib.Dec.{eqb};
+ghost use Rattle.parameters.specs.Suits.{isUssd, noneOrOne, noneOrUssd, suits, InvokeReceived, ResultReceived, InvokeWritten, ResultWritten};
+ghost use Rattle.parameters.specs.Seen.{TextSeen, withoutText};
 
-pub enum Place {
-    InvokeReceived,
-    ResultReceived,
-    InvokeWritten,
-    ResultWritten,
+// Whether a received parameter suits its operation, and the text that was read to tell it.
+pub struct Suited {
+    pub suited: bool,
+    pub text: Ussd,
 }
 
 // The parameter of an error.
@@ -22,32 +25,70 @@ fn is_none_or_ussd(p: &[u8]) -> bool
     (p.len() == 0) | super::kinds::is_ussd(p)
 }
 
-fn suits_invoke_received(operation: u8, p: &[u8]) -> bool
-    ensures { λ r. ⌜ r ≡ suitsInvokeReceived operation (now (p .entry)) ⌝ }
+fn without_text(suited: bool) -> Suited
+    ensures { λ r. ⌜ r ≡ withoutText suited ⌝ }
+{
+    Suited {
+        suited: suited,
+        text: Ussd::Refused,
+    }
+}
+
+// A parameter that should be a text.
+fn read_text(p: &[u8]) -> Suited
+    ensures suited { λ r. ⌜ r .suited ≡ isUssd (now (p .entry)) ⌝ }
+    ensures text { λ r. ⌜ TextSeen true (now (p .entry)) (r .text) ⌝ }
+{
+    // field by field: a whole enum would be copied through memory
+    let Ussd::Says { scheme, start, end } = super::text::read_ussd(p) else {
+        return without_text(false);
+    };
+    Suited {
+        suited: true,
+        text: Ussd::Says {
+            scheme: scheme,
+            start: start,
+            end: end,
+        },
+    }
+}
+
+// An invoke that is received.
+pub fn suits_invoke_received(operation: u8, p: &[u8]) -> Suited
+    ensures suited { λ r. ⌜ r .suited ≡ suits InvokeReceived operation (now (p .entry)) ⌝ }
+    ensures text { λ r. ⌜ TextSeen (eqb operation 60 || eqb operation 61) (now (p .entry)) (r .text) ⌝ }
 {
     if operation == 18 {
-        return super::kinds::is_guidance(p);
+        return without_text(super::kinds::is_guidance(p));
     }
     if (operation == 60) | (operation == 61) {
-        return super::kinds::is_ussd(p);
+        return read_text(p);
     }
-    (operation == 38) & (p.len() == 0)
+    without_text((operation == 38) & (p.len() == 0))
 }
 
-fn suits_result_received(operation: u8, p: &[u8]) -> bool
-    ensures { λ r. ⌜ r ≡ suitsResultReceived operation (now (p .entry)) ⌝ }
+// A result that is received; the operation is the one that waits.
+pub fn suits_result_received(operation: u8, p: &[u8]) -> Suited
+    ensures suited { λ r. ⌜ r .suited ≡ suits ResultReceived operation (now (p .entry)) ⌝ }
+    ensures text { λ r. ⌜ TextSeen (eqb operation 59) (now (p .entry)) (r .text) ⌝ }
 {
     if operation == 17 {
-        return super::kinds::is_password(p);
+        return without_text(super::kinds::is_password(p));
     }
     if operation == 59 {
-        return is_none_or_ussd(p);
+        let read = read_text(p);
+        let text = read.text;
+        return Suited {
+            suited: (p.len() == 0) | read.suited,
+            text: text,
+        };
     }
-    (10 <= operation) & (operation <= 14) & is_none_or_one(p)
+    without_text((10 <= operation) & (operation <= 14) & is_none_or_one(p))
 }
 
-fn suits_invoke_written(operation: u8, p: &[u8]) -> bool
-    ensures { λ r. ⌜ r ≡ suitsInvokeWritten operation (now (p .entry)) ⌝ }
+// An invoke that we write.
+pub fn suits_invoke_written(operation: u8, p: &[u8]) -> bool
+    ensures { λ r. ⌜ r ≡ suits InvokeWritten operation (now (p .entry)) ⌝ }
 {
     if operation == 10 {
         return super::one::is_one(p);
@@ -61,8 +102,9 @@ fn suits_invoke_written(operation: u8, p: &[u8]) -> bool
     (operation == 59) & super::kinds::is_ussd(p)
 }
 
-fn suits_result_written(operation: u8, p: &[u8]) -> bool
-    ensures { λ r. ⌜ r ≡ suitsResultWritten operation (now (p .entry)) ⌝ }
+// A result that we write; the operation is the one that it answers.
+pub fn suits_result_written(operation: u8, p: &[u8]) -> bool
+    ensures { λ r. ⌜ r ≡ suits ResultWritten operation (now (p .entry)) ⌝ }
 {
     if operation == 18 {
         return super::kinds::is_password(p);
@@ -71,16 +113,4 @@ fn suits_result_written(operation: u8, p: &[u8]) -> bool
         return is_none_or_ussd(p);
     }
     (operation == 61) & (p.len() == 0)
-}
-
-// Whether the parameter suits the operation; no octets are no parameter.
-pub fn is_suited(place: Place, operation: u8, p: &[u8]) -> bool
-    ensures { λ r. ⌜ r ≡ suits place operation (now (p .entry)) ⌝ }
-{
-    match place {
-        Place::InvokeReceived => suits_invoke_received(operation, p),
-        Place::ResultReceived => suits_result_received(operation, p),
-        Place::InvokeWritten => suits_invoke_written(operation, p),
-        Place::ResultWritten => suits_result_written(operation, p),
-    }
 }

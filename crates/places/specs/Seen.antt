@@ -1,9 +1,11 @@
 -- What the code's answers say of the octets that were read. A parameter stands last, so it is told by its length.
 use Prim.Native.Nat.{ℕ, _-_, _≤_}
 use mathlib.Core.List.{List}
+use mathlib.Core.Bool.{Bool, _&&_}
 use mathlib.Core.Option.{Option, none, some}
 use lib.IntN.{ℤ}
-use lib.ListN.{length, drop}
+use lib.ListN.{length, getD, drop}
+use lib.Dec.{leb, eqb}
 use Rattle.octets.specs.Reader.{Answer, fault, sound, Taken, took}
 use Rattle.elements.specs.Element.{missing, unreadable}
 use Rattle.elements.specs.declared.Found.{Found}
@@ -29,6 +31,10 @@ idSeen (Id.Is id) = some id
 -- the last n octets
 abbrev pub last : ℕ → List ℕ → List ℕ
 last n s = drop (length s - n) s
+
+-- the usual form of a place of one octet: 02, 01, the octet
+abbrev pub usual : List ℕ → Bool
+usual s = leb 3 (length s) && eqb (getD s 0 0) 0x02 && eqb (getD s 1 0) 0x01
 
 abbrev pub singleSeen : List ℕ → Single → Answer (Taken ℕ)
 singleSeen s (Single.Fault n) = fault n

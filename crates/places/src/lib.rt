@@ -2,7 +2,7 @@
 use elements::Found;
 ghost use mathlib.Core.Path.{_≡_};
 ghost use Rattle.places.specs.Places.{single, parameter, called, coded, rejected};
-ghost use Rattle.places.specs.Seen.{problemOf, faultOf, singleSeen, SingleWithin, callsSeen, callsFault, CallsWithin, lastFault, lastSeen, codedSeen, codedFault, CodedWithin, rejectedSeen, rejectedFault, RejectedWithin};
+ghost use Rattle.places.specs.Seen.{problemOf, faultOf, usual, singleSeen, SingleWithin, callsSeen, callsFault, CallsWithin, lastFault, lastSeen, codedSeen, codedFault, CodedWithin, rejectedSeen, rejectedFault, RejectedWithin};
 
 // An id that may be absent.
 pub enum Id {
@@ -55,11 +55,27 @@ pub fn problem_of(found: Found) -> u8
     }
 }
 
+// The usual form of an id or an operation, told at once: 02, 01 and the octet.
+fn is_usual(s: &[u8]) -> bool
+    ensures { λ r. ⌜ r ≡ usual (now (s .entry)) ⌝ }
+{
+    if s.len() < 3 {
+        return false;
+    }
+    (s[0] == 0x02) & (s[1] == 0x01)
+}
+
 // A place of one octet: an id, an operation or an error code.
 pub fn read_single(s: &[u8], tag: u8) -> Single
     ensures reads { λ r. ⌜ singleSeen (now (s .entry)) r ≡ single tag (now (s .entry)) ⌝ }
     ensures within { λ r. ⌜ SingleWithin (now (s .entry)) r ⌝ }
 {
+    if (tag == 0x02) & is_usual(s) {
+        return Single::Is {
+            octet: s[2],
+            end: 3,
+        };
+    }
     let found = elements::read_element(s);
     let Found::Whole { tag: t, start, end } = found else {
         return Single::Fault(problem_of(found));
@@ -147,6 +163,13 @@ pub fn read_calls(s: &[u8]) -> Calls
     ensures reads { λ r. ⌜ callsSeen (now (s .entry)) r ≡ called (now (s .entry)) ⌝ }
     ensures within { λ r. ⌜ CallsWithin (now (s .entry)) r ⌝ }
 {
+    if is_usual(s) {
+        return Calls::Is {
+            linked: Id::Absent,
+            operation: s[2],
+            end: 3,
+        };
+    }
     let found = elements::read_element(s);
     let Found::Whole { tag, start, end } = found else {
         return Calls::Fault(problem_of(found));

@@ -13,8 +13,7 @@ use borrow.Author.Tests.{leb-true}
 use Rattle.octets.specs.Reader.{Answer, fault, sound, andThen, check}
 use Rattle.codes.specs.Operations.{begins, waits}
 use Rattle.codes.specs.Errors.{listed}
-use Rattle.parameters.specs.Suits.{suits, noneOrOne}
-use Rattle.parameters.specs.declared.suits.Place.the-variants.{InvokeWritten, ResultWritten}
+use Rattle.parameters.specs.Suits.{suits, noneOrOne, InvokeWritten, ResultWritten}
 use Rattle.table.specs.Table.{Waiting, place, named, entryAt, valid, lowestClosed, holdsOne, holds}
 use Rattle.table.proofs.TableLaws.{holds-at, valid-each, lowest-closed-is}
 use Rattle.judging.specs.StepSix.{among, full, operationOf, without}

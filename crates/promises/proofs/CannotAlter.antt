@@ -12,8 +12,7 @@ use lib.Dec.{eqb}
 use Rattle.octets.specs.Reader.{sound, Taken, took, check, isEmpty}
 use Rattle.elements.specs.Element.{row}
 use Rattle.parameters.specs.Parameter.{Text, ussd}
-use Rattle.parameters.specs.Suits.{isUssd, suits, suitsInvokeReceived, suitsResultReceived}
-use Rattle.parameters.specs.declared.suits.Place.the-variants.{InvokeReceived, ResultReceived}
+use Rattle.parameters.specs.Suits.{isUssd, suits, suitsInvokeReceived, suitsResultReceived, InvokeReceived, ResultReceived}
 use Rattle.components.specs.Component.{Component, invoke, result, error, reject, parameterOf}
 use Rattle.components.specs.Facility.{facility}
 use Rattle.components.specs.LaterEdition.{LaterParameter, LaterFacility, withParameter}
@@ -27,7 +26,7 @@ use Rattle.codes.specs.Operations.{serves}
 use Rattle.codes.specs.Problems.{invoke as invokeProblem, result as resultProblem}
 use Rattle.deciding.specs.Decision.{Decision, Shows, silent, withCause, released, taken, shownBy}
 use Rattle.deciding.specs.Steps.{shown, onJudged, stepSix, stepFive, onRequired, stepFour, isInvoke, exceptInvoke, onRelease, stepTwo, entryOf}
-use Rattle.showing.specs.Views.{extensible, textOf}
+use Rattle.components.specs.Texts.{extensible, textOf}
 use Rattle.telephone.specs.Receive.{act, receive}
 use Rattle.promises.specs.LaterEdition.{LaterMessage, inRegister, inFacility, inRelease, SameButTail, CannotAlter}
 use Rattle.promises.proofs.Shown.{first-is, some-inj, nothing-shown, GoesOn, decide-further, receive-shows, five-shows, except-shows, text-is}

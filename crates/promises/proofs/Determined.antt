@@ -2,12 +2,15 @@
 use Prim.Native.Nat.{ℕ, _-_, _≤_}
 use mathlib.Core.Path.{_≡_, refl, sym, ap, _∙_}
 use mathlib.Core.List.{List}
+use mathlib.Core.Bool.{Bool}
 use mathlib.Core.Option.{Option, none, some}
 use native.Mathlib.Omega.{arith}
 use lib.IntN.{ℤ}
 use lib.ListN.{length, drop, length-drop}
 use Rattle.octets.specs.Reader.{Answer, fault, sound, Taken}
 use Rattle.octets.proofs.ReaderLaws.{sound-inj}
+use Rattle.parameters.specs.Seen.{TextSeen}
+use Rattle.parameters.specs.declared.suits.Suited.{Suited}
 use Rattle.places.specs.Places.{Called, Coded}
 use Rattle.places.specs.Seen.{idSeen, singleSeen, SingleWithin, callsSeen, CallsWithin, lastSeen, last, codedSeen, CodedWithin, rejectedSeen, RejectedWithin}
 use Rattle.places.specs.declared.Id.{Id}
@@ -30,7 +33,7 @@ use Rattle.table.proofs.Determined.{slot-determined, named-determined}
 use Rattle.judging.proofs.Determined.{verdict-determined}
 use Rattle.deciding.proofs.Determined.{decision-determined}
 use Rattle.calling.proofs.Determined.{call-determined}
-use Rattle.promises.specs.Determined.{Exact, Says, Means, Determined}
+use Rattle.promises.specs.Determined.{OneAnswer, Exact, Says, Means, Determined}
 
 pub exact : Exact
 exact A definition r q e f = e ∙ sym f
@@ -106,11 +109,20 @@ kind-determined s (Kind.Fault n) (Kind.Is y) a b e = cc
 kind-determined s (Kind.Is x) (Kind.Fault m) a b e = cc
 kind-determined s (Kind.Is x) (Kind.Is y) a b e = ap Kind.Is (shows-inj (reading-determined s (Reading.Shows x) (Reading.Shows y) a b (ap shows (sound-inj e))))
 
+suited-determined : (sought : Bool) (p : List ℕ) (definition : Bool) → OneAnswer (λ (r : Suited). (r .suited ≡ definition) × TextSeen sought p (r .text))
+suited-determined sought p definition r q e f =
+    let a = e .0 ∙ sym (f .0) in
+    let b = ussd-determined p (r .text) (q .text) (e .1 .1) (f .1 .1) (e .1 .0 ∙ sym (f .1 .0)) in
+    λ n. record { suited = a n; text = b n }
+
 pub determined : Determined
 determined = (
   (by-saying _ _ length-determined, by-saying _ _ found-determined),
   (
-    (by-saying _ _ contents-determined, ((λ low. by-saying _ _ (λ s r q a b e. octets-determined s low r q a b e)), by-saying _ _ ussd-determined)),
+    (
+      (by-saying _ _ contents-determined, ((λ low. by-saying _ _ (λ s r q a b e. octets-determined s low r q a b e)), by-saying _ _ ussd-determined)),
+      suited-determined,
+    ),
     (
       (
         by-saying _ _ single-determined,
@@ -121,7 +133,7 @@ determined = (
         (
           (by-saying _ _ item-determined, (by-saying _ _ body-determined, by-saying _ _ part-determined)),
           (
-            (by-meaning _ slot-determined, (by-meaning _ named-determined, by-meaning _ verdict-determined)),
+            (by-meaning _ slot-determined, (by-meaning _ named-determined, λ c definition r q e f. verdict-determined c r q (e .1) (f .1) (e .0 ∙ sym (f .0)))),
             (by-saying _ _ decision-determined, λ message named definition r q e f. call-determined message named r q (e .0 ∙ sym (f .0)) (e .1) (f .1)),
           ),
         ),

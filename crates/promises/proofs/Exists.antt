@@ -30,7 +30,7 @@ use Rattle.messages.proofs.ScanLaws.{laid, mandatory-is, first-found}
 use Rattle.table.specs.Table.{Entry}
 use Rattle.deciding.specs.Decision.{silent, withCause, shownBy}
 use Rattle.deciding.specs.Steps.{onRequired, stepFour, stepFive, inRelease as shownInRelease, onRelease, byType, stepTwo}
-use Rattle.showing.specs.Views.{extensible}
+use Rattle.components.specs.Texts.{extensible}
 use Rattle.promises.specs.LaterEdition.{LaterMessage, inRegister, inFacility, inRelease, Exists}
 use Rattle.promises.proofs.Shown.{nothing-shown, held, failed, GoesOn, further, receive-shows, five-shows, except-shows, text-is}
 

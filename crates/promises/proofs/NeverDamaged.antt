@@ -12,8 +12,7 @@ use Rattle.octets.specs.Reader.{Answer, fault, sound, Taken}
 use Rattle.codes.specs.Operations.{begins, serves}
 use Rattle.codes.specs.Errors.{listed}
 use Rattle.codes.specs.Problems.{invoke as invokeProblem}
-use Rattle.parameters.specs.Suits.{suits}
-use Rattle.parameters.specs.declared.suits.Place.the-variants.{InvokeReceived, ResultReceived}
+use Rattle.parameters.specs.Suits.{suits, InvokeReceived, ResultReceived}
 use Rattle.components.specs.Component.{Component, invoke, reject}
 use Rattle.components.specs.Component as component
 use Rattle.components.specs.Facility.{Finding, empty, shows, general, leftOver, faultyReject, facility}

@@ -15,8 +15,7 @@ use Rattle.elements.specs.Element.{Element, element}
 use Rattle.codes.specs.Operations.{begins}
 use Rattle.codes.specs.Errors.{listed}
 use Rattle.parameters.specs.Parameter.{mistyped, isSound, one, holding, inside, ussd, isPassword, isServiceCode, ussdContents, password, serviceCode, ssForBs}
-use Rattle.parameters.specs.Suits.{anyOne, isUssd, noneOrOne, noneOrUssd, suitsInvokeWritten, suitsResultWritten, suits}
-use Rattle.parameters.specs.declared.suits.Place.the-variants.{InvokeWritten, ResultWritten}
+use Rattle.parameters.specs.Suits.{anyOne, isUssd, noneOrOne, noneOrUssd, suitsInvokeWritten, suitsResultWritten, suits, InvokeWritten, ResultWritten}
 use Rattle.places.specs.Places.{misplaced, parameter}
 use Rattle.components.specs.Component.{Component, invoke, error, reject}
 use Rattle.components.specs.Facility.{shows, facility}

@@ -27,8 +27,7 @@ use Rattle.components.proofs.ReadBack.{read-back}
 use Rattle.codes.specs.Operations.{serves}
 use Rattle.codes.specs.Errors.{listed}
 use Rattle.codes.specs.Problems.{invoke as invokeProblem}
-use Rattle.parameters.specs.Suits.{suits}
-use Rattle.parameters.specs.declared.suits.Place.the-variants.{InvokeReceived, ResultReceived}
+use Rattle.parameters.specs.Suits.{suits, InvokeReceived, ResultReceived}
 use Rattle.messages.specs.Layout.{registerType, mandatoryMissing, mandatory}
 use Rattle.messages.specs.Scan.{clear, required}
 use Rattle.messages.proofs.ScanLaws.{mandatory-is}

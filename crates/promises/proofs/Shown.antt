@@ -21,7 +21,7 @@ use Rattle.table.specs.Table.{Entry, entryAt, valid}
 use Rattle.judging.specs.StepSix.{Judged, problem, accepted, judgeInvoke, judgeResult, judgeError}
 use Rattle.deciding.specs.Decision.{Decision, Shows, silent, shownBy}
 use Rattle.deciding.specs.Steps.{onJudged, isInvoke, exceptInvoke, stepSix, stepFive, stepTwo, firstOf, entryOf, decide}
-use Rattle.showing.specs.Views.{extensible, readable, textOf}
+use Rattle.components.specs.Texts.{extensible, readable, textOf}
 use Rattle.telephone.specs.Receive.{act, receive}
 
 -- in RELEASE COMPLETE, the value of the first 1C and what stands behind it

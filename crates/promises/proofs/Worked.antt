@@ -14,12 +14,12 @@ use Rattle.octets.specs.Splice.{splice as octets-splice}
 use Rattle.parameters.specs.Suits.{suitsInvokeReceived as parameters-suitsInvokeReceived, suitsResultReceived as parameters-suitsResultReceived, suitsInvokeWritten as parameters-suitsInvokeWritten, suitsResultWritten as parameters-suitsResultWritten, suits as parameters-suits}
 use Rattle.parameters.specs.Parameter.{string as parameters-string, text as parameters-text, ussdContents as parameters-ussdContents, ussd as parameters-ussd, ssForBsContents as parameters-ssForBsContents}
 use Rattle.places.specs.Places.{single as places-single, parameter as places-parameter, called as places-called, coded as places-coded, rejected as places-rejected}
-use Rattle.showing.specs.Views.{textOf as showing-textOf}
+use Rattle.components.specs.Texts.{textOf as components-textOf}
 use Rattle.table.specs.Table.{entryOf as table-entryOf, soundImage as table-soundImage, entryAt as table-entryAt, soundEntries as table-soundEntries, valid as table-valid, stateOf as table-stateOf, octets as table-octets, withEntry as table-withEntry, lowestFrom as table-lowestFrom, lowestClosed as table-lowestClosed}
 use Rattle.telephone.specs.Receive.{act as telephone-act, receive as telephone-receive}
 use Rattle.telephone.specs.Calls.{begin as telephone-begin, result as telephone-result}
 use Rattle.promises.specs.Worked.{Worked}
 
 pub worked : Worked
-unfolding calling-transaction calling-fitting calling-begin calling-sendResult codes-listed components-contents components-answer components-invokeOf components-resultOf components-errorOf components-rejectOf components-afterTag components-component components-inside components-facility deciding-stepSix deciding-stepFive deciding-stepFour deciding-onRelease deciding-stepTwo deciding-entryOf deciding-replyFirst deciding-decide elements-lengthOf elements-element elements-rowOf elements-row elements-shortest judging-among judging-full judging-operationOf judging-without judging-linkedProblem judging-judgeInvoke judging-isOurs judging-judgeResult judging-judgeError messages-sized messages-mandatory messages-register messages-facilityMessage messages-releaseFacility messages-information messages-clearOf messages-clear messages-required messages-firstOf messages-firstTaken octets-splice parameters-suitsInvokeReceived parameters-suitsResultReceived parameters-suitsInvokeWritten parameters-suitsResultWritten parameters-suits parameters-string parameters-text parameters-ussdContents parameters-ussd parameters-ssForBsContents places-single places-parameter places-called places-coded places-rejected showing-textOf table-entryOf table-soundImage table-entryAt table-soundEntries table-valid table-stateOf table-octets table-withEntry table-lowestFrom table-lowestClosed telephone-act telephone-receive telephone-begin telephone-result
+unfolding calling-transaction calling-fitting calling-begin calling-sendResult codes-listed components-contents components-answer components-invokeOf components-resultOf components-errorOf components-rejectOf components-afterTag components-component components-inside components-facility deciding-stepSix deciding-stepFive deciding-stepFour deciding-onRelease deciding-stepTwo deciding-entryOf deciding-replyFirst deciding-decide elements-lengthOf elements-element elements-rowOf elements-row elements-shortest judging-among judging-full judging-operationOf judging-without judging-linkedProblem judging-judgeInvoke judging-isOurs judging-judgeResult judging-judgeError messages-sized messages-mandatory messages-register messages-facilityMessage messages-releaseFacility messages-information messages-clearOf messages-clear messages-required messages-firstOf messages-firstTaken octets-splice parameters-suitsInvokeReceived parameters-suitsResultReceived parameters-suitsInvokeWritten parameters-suitsResultWritten parameters-suits parameters-string parameters-text parameters-ussdContents parameters-ussd parameters-ssForBsContents places-single places-parameter places-called places-coded places-rejected components-textOf table-entryOf table-soundImage table-entryAt table-soundEntries table-valid table-stateOf table-octets table-withEntry table-lowestFrom table-lowestClosed telephone-act telephone-receive telephone-begin telephone-result
 worked = ((refl, (refl, (refl, (refl, refl)))), ((refl, (refl, (refl, refl))), ((refl, refl), ((refl, refl), ((refl, refl), ((refl, refl), ((refl, refl), ((refl, refl), ((refl, refl), (refl, refl))))))))))

@@ -3,13 +3,18 @@
 use Prim.Native.Nat.{ℕ}
 use mathlib.Core.Path.{_≡_}
 use mathlib.Core.List.{List}
+use mathlib.Core.Bool.{Bool}
 use Rattle.elements.specs.Found.{lengthSeen, LengthWithin, seen, Within}
-use Rattle.parameters.specs.Seen.{contentsSeen, ContentsWithin, octetsSeen, OctetsWithin, ussdSeen, UssdWithin}
+use Rattle.parameters.specs.Seen.{contentsSeen, ContentsWithin, octetsSeen, OctetsWithin, ussdSeen, UssdWithin, TextSeen}
+use Rattle.parameters.specs.declared.suits.Suited.{Suited}
 use Rattle.places.specs.Seen.{singleSeen, SingleWithin, callsSeen, CallsWithin, lastSeen, codedSeen, CodedWithin, rejectedSeen, RejectedWithin}
+use Rattle.components.specs.Component.{Component}
 use Rattle.components.specs.Seen.{kindSeen, KindWithin, readingSeen, ReadingWithin}
 use Rattle.messages.specs.Seen.{itemSeen, ItemWithin, bodySeen, BodyWithin, partSeen, PartWithin}
 use Rattle.table.specs.Seen.{slotSeen, namedSeen}
-use Rattle.judging.specs.Seen.{verdictSeen}
+use Rattle.judging.specs.StepSix.{Judged}
+use Rattle.judging.specs.Seen.{verdictSeen, VerdictText}
+use Rattle.judging.specs.declared.Verdict.{Verdict}
 use Rattle.deciding.specs.Seen.{decisionSeen, DecisionWithin}
 use Rattle.calling.specs.Seen.{callSeen, CallNames}
 use Rattle.calling.specs.Calls.{Sending}
@@ -37,7 +42,9 @@ abbrev pub Elements : Type 0
 Elements = Says lengthSeen LengthWithin × Says seen Within
 
 abbrev pub Parameters : Type 0
-Parameters = Says contentsSeen ContentsWithin × (((low : ℕ) → Says octetsSeen (λ s r. OctetsWithin s low r)) × Says ussdSeen UssdWithin)
+Parameters =
+    (Says contentsSeen ContentsWithin × (((low : ℕ) → Says octetsSeen (λ s r. OctetsWithin s low r)) × Says ussdSeen UssdWithin))
+    × ((sought : Bool) (p : List ℕ) (definition : Bool) → OneAnswer (λ (r : Suited). (r .suited ≡ definition) × TextSeen sought p (r .text)))
 
 abbrev pub Places : Type 0
 Places =
@@ -51,7 +58,9 @@ abbrev pub Messages : Type 0
 Messages = Says itemSeen ItemWithin × (Says bodySeen BodyWithin × Says partSeen PartWithin)
 
 abbrev pub Transactions : Type 0
-Transactions = Means slotSeen × (Means namedSeen × Means verdictSeen)
+Transactions =
+    Means slotSeen
+    × (Means namedSeen × ((c : Component) (definition : Judged) → OneAnswer (λ (r : Verdict). (verdictSeen r ≡ definition) × VerdictText c r)))
 
 abbrev pub Decisions : Type 0
 Decisions =

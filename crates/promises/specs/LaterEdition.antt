@@ -14,7 +14,7 @@ use Rattle.components.specs.Component.{Component, parameterOf}
 use Rattle.components.specs.LaterEdition.{LaterParameter, LaterFacility, withParameter}
 use Rattle.messages.specs.Layout.{registerType, facilityType, releaseType}
 use Rattle.messages.specs.Scan.{Passed, contentsOf}
-use Rattle.showing.specs.Views.{textOf}
+use Rattle.components.specs.Texts.{textOf}
 use Rattle.telephone.specs.Outcome.{Outcome, untouched}
 use Rattle.telephone.specs.Receive.{receive}
 

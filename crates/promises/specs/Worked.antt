@@ -9,7 +9,7 @@ use Rattle.octets.specs.Reader.{Taken}
 use Rattle.parameters.specs.Parameter.{Text}
 use Rattle.components.specs.Component.{Component, invoke}
 use Rattle.deciding.specs.Decision.{Shows}
-use Rattle.showing.specs.Views.{textOf}
+use Rattle.components.specs.Texts.{textOf}
 use Rattle.telephone.specs.Outcome.{Outcome}
 use Rattle.telephone.specs.Receive.{receive}
 use Rattle.telephone.specs.Calls.{begin, result}

@@ -2,7 +2,7 @@
 use Prim.Native.Nat.{ℕ, _+_, _-_, _≤_}
 use mathlib.Core.Path.{_≡_, refl, sym, ap, _∙_}
 use mathlib.Core.List.{List, _++_}
-use mathlib.Core.Bool.{Bool, true, false}
+use mathlib.Core.Bool.{Bool, true, false, cond}
 use mathlib.Core.Option.{none, some}
 use native.Mathlib.Omega.{arith}
 use lib.IntN.{ℤ, pos}
@@ -16,6 +16,7 @@ use Rattle.places.specs.Seen.{idSeen, last}
 use Rattle.places.specs.declared.Id.{Id}
 use Rattle.places.proofs.Left.{last-taken}
 use Rattle.components.specs.Component.{Component, parameterOf}
+use Rattle.components.specs.Texts.{extensible, readable, textOf}
 use Rattle.components.specs.Seen.{operationSeen, shownSeen, parameterLength}
 use Rattle.components.specs.declared.shown.Operation.{Operation}
 use Rattle.components.specs.declared.shown.Shown.{Shown}
@@ -24,7 +25,7 @@ use Rattle.components.proofs.Paths.{parameter-shown}
 use Rattle.showing.specs.declared.Span.{Span}
 use Rattle.showing.specs.declared.ComponentView.{ComponentView}
 use Rattle.showing.specs.declared.TextView.{TextView}
-use Rattle.showing.specs.Views.{spanOf, isThere, idOr0, numberOr0, viewOf, componentView, extensible, readable, textOf, textIn, textView, noText}
+use Rattle.showing.specs.Views.{spanOf, isThere, idOr0, numberOr0, viewOf, componentView, textIn, textView, noText}
 
 -- a part of what stands behind the two octets of the head
 pub span-at : (s : List ℕ) (a e : ℕ) → a ≤ e → e ≤ length s → spanOf (2 + length s) (between a e s) (drop e s) ≡ record { start = 2 + a; end = 2 + e }
@@ -113,11 +114,6 @@ module _ (s : List ℕ) (span : Span) where
 pub parameter-is : (r : Shown) (s : List ℕ) (n e : ℕ) → n ≡ parameterLength r → parameterLength r ≤ e → e ≤ length s → parameterOf (shownSeen (take e s) r) ≡ between (e - n) e s
 parameter-is r s n e q h k = sym (parameter-shown r (take e s)) ∙ sym (last-taken s e (parameterLength r) h k) ∙ ap (λ (j : ℕ). between (e - j) e s) (sym q)
 
--- a component that carries no text
-pub text-other : (r : Shown) (s behind : List ℕ) (n : ℕ) → extensible (shownSeen s r) ≡ false → noText ≡ textView n (some (record { value = shownSeen s r; rest = behind }))
-unfolding textView textOf
-text-other r s behind n e = rw e
-
 readable-refused : (o : Answer (Taken Text)) → fault mistyped ≡ refusal o → readable o ≡ none
 readable-refused (fault n) e = refl
 readable-refused (sound g) e = cc
@@ -125,6 +121,20 @@ readable-refused (sound g) e = cc
 readable-taken : (o : Answer (Taken Text)) (g : Taken Text) → sound g ≡ refusal o → readable o ≡ some g
 readable-taken (fault n) g e = cc
 readable-taken (sound h) g e = cc
+
+-- a text is told exactly where the component carries one that reads
+text-none : (b : Bool) (o : Answer (Taken Text)) → fault mistyped ≡ cond b (refusal o) (fault mistyped) → cond b (readable o) none ≡ none
+text-none true o e = readable-refused o e
+text-none false o e = refl
+
+text-some : (b : Bool) (o : Answer (Taken Text)) (g : Taken Text) → sound g ≡ cond b (refusal o) (fault mistyped) → cond b (readable o) none ≡ some g
+text-some true o g e = readable-taken o g e
+text-some false o g e = cc
+
+pub text-untold : (c : Component) (behind : List ℕ) (n : ℕ) → fault mistyped ≡ cond (extensible c) (refusal (ussd (parameterOf c))) (fault mistyped)
+    → noText ≡ textView n (some (record { value = c; rest = behind }))
+unfolding textView textOf
+text-untold c behind n e = rw (text-none (extensible c) (ussd (parameterOf c)) e)
 
 -- the numbers of a text's parts, from the lengths of what follows them
 places : (l e m from to d t g b : ℕ) → m ≤ e → d + e ≡ l → t + to ≡ m → g + from ≡ to → b ≡ t + d → (scheme : ℕ)
@@ -148,14 +158,13 @@ places l e m from to d t g b w p q r f scheme =
     let b₂ : 2 + e ≡ 2 + l - d = omega arith in
     λ i. record { «is_there» = true; scheme = scheme; string = record { start = a₁ i; end = a₂ i }; tail = record { start = b₁ i; end = b₂ i } }
 
-module _ (r : Shown) (s : List ℕ) (n m e : ℕ) (q : m ≡ parameterLength r) (h : parameterLength r ≤ e) (k : e ≤ length s) (x : extensible (shownSeen (take e s) r) ≡ true) where
-  pub text-refused : fault mistyped ≡ refusal (ussd (between (e - m) e s)) → noText ≡ textView n (some (record { value = shownSeen (take e s) r; rest = drop e s }))
-  unfolding textView textOf
-  text-refused u = rw (x, parameter-is r s m e q h k, readable-refused _ u)
+module _ (r : Shown) (s : List ℕ) (m e : ℕ) (q : m ≡ parameterLength r) (h : parameterLength r ≤ e) (k : e ≤ length s) where
+  pub parameter-long : length (parameterOf (shownSeen (take e s) r)) ≡ m
+  parameter-long = rw (parameter-is r s m e q h k) (length-between (e - m) e s k ∙ less m e (omega arith))
 
   -- the tail goes on to the end of the parameter, the string up to the tail
   pub text-taken : (scheme from to : ℕ) → from ≤ to → to ≤ m
-      → took (record { scheme = scheme; string = between from to (between (e - m) e s) }) (drop to (between (e - m) e s)) ≡ refusal (ussd (between (e - m) e s))
+      → (let p = parameterOf (shownSeen (take e s) r) in took (record { scheme = scheme; string = between from to p }) (drop to p) ≡ cond (extensible (shownSeen (take e s) r)) (refusal (ussd p)) (fault mistyped))
       → record {
         «is_there» = true;
         scheme = scheme;
@@ -171,5 +180,5 @@ module _ (r : Shown) (s : List ℕ) (n m e : ℕ) (q : m ≡ parameterLength r) 
       let t : length (drop to p) + to ≡ m = length-drop-add to p (omega arith) ∙ z in
       let g : length (between from to p) + from ≡ to = rw (length-between from to p (omega arith)) (back from to i) in
       let b : length (drop to p ++ drop e s) ≡ length (drop to p) + length (drop e s) = length-append (drop to p) (drop e s) in
-      rw (x, parameter-is r s m e q h k, readable-taken _ _ u)
+      rw (parameter-is r s m e q h k, text-some (extensible (shownSeen (take e s) r)) (ussd p) _ (rw (parameter-is r s m e q h k) at u))
       (places (length s) e m from to (length (drop e s)) (length (drop to p)) (length (between from to p)) (length (drop to p ++ drop e s)) w d t g b scheme)

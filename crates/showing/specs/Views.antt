@@ -1,14 +1,14 @@
 -- What C gets to see of a component: its numbers, and its parts as places in the message.
 use Prim.Native.Nat.{ℕ, _-_}
 use mathlib.Core.List.{List, _++_}
-use mathlib.Core.Bool.{Bool, true, false, cond, _||_}
+use mathlib.Core.Bool.{Bool, true, false}
 use mathlib.Core.Option.{Option, none, some}
 use lib.IntN.{ℤ, pos}
 use lib.ListN.{length}
-use lib.Dec.{eqb}
-use Rattle.octets.specs.Reader.{Answer, fault, sound, Taken}
-use Rattle.parameters.specs.Parameter.{Text, ussd}
+use Rattle.octets.specs.Reader.{Taken}
+use Rattle.parameters.specs.Parameter.{Text}
 use Rattle.components.specs.Component.{Component, invoke, result, error, reject, parameterOf, invokeTag, resultTag, errorTag, rejectTag}
+use Rattle.components.specs.Texts.{textOf}
 use Rattle.showing.specs.declared.Span.{Span}
 use Rattle.showing.specs.declared.ComponentView.{ComponentView}
 use Rattle.showing.specs.declared.TextView.{TextView}
@@ -111,22 +111,6 @@ noComponent =
 unfoldable pub componentView : ℕ → Option (Taken Component) → ComponentView
 componentView n none = noComponent
 componentView n (some t) = viewOf (t .value) (spanOf n (parameterOf (t .value)) (t .rest))
-
--- "The three extensible places of the mission are the invokes 60 and 61 and the result of 59."
-abbrev pub extensible : Component → Bool
-extensible (invoke id linked operation p) = eqb operation 60 || eqb operation 61
-extensible (result id none p) = false
-extensible (result id (some operation) p) = eqb operation 59
-extensible (error id code p) = false
-extensible (reject id tag problem) = false
-
-abbrev pub readable : Answer (Taken Text) → Option (Taken Text)
-readable (fault n) = none
-readable (sound g) = some g
-
--- coding scheme and string, and the tail that is left
-unfoldable pub textOf : Component → Option (Taken Text)
-textOf c = cond (extensible c) (readable (ussd (parameterOf c))) none
 
 abbrev pub noText : TextView
 noText = record { «is_there» = false; scheme = 0; string = nowhere; tail = nowhere }

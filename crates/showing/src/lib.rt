@@ -10,9 +10,9 @@ ghost use mathlib.Core.Option.{some};
 ghost use Prim.Native.Nat.{ℕ, _+_, _≤_};
 ghost use lib.ListN.{length, take, drop};
 ghost use Rattle.places.specs.Seen.{idSeen};
-ghost use Rattle.components.specs.Seen.{operationSeen, shownSeen, parameterLength};
+ghost use Rattle.components.specs.Seen.{operationSeen, shownSeen, TextTold, parameterLength};
 ghost use Rattle.messages.specs.Seen.{partSeen, PartWithin};
-ghost use Rattle.showing.specs.Views.{isThere, idOr0, numberOr0, viewOf, componentView, extensible, textView, causeView, noComponent, noText};
+ghost use Rattle.showing.specs.Views.{isThere, idOr0, numberOr0, viewOf, componentView, textView, causeView, noComponent, noText};
 
 // From one octet of the message up to, not including, another.
 #[repr(C)]
@@ -217,46 +217,6 @@ pub fn component_view(s: &[u8], shown: Shown, end: usize) -> ComponentView
     view_of(shown, span)
 }
 
-// Whether a component is one of the three that carry a USSD text.
-fn is_extensible(shown: Shown) -> bool
-    ensures { λ r. ⌜ ((s : List ℕ) → r ≡ extensible (shownSeen s shown)) ⌝ }
-{
-    match shown {
-        Shown::Invoke {
-            id: _,
-            linked: _,
-            operation,
-            parameter: _,
-        } => {
-            return (operation == 60) | (operation == 61);
-        }
-        Shown::Result {
-            id: _,
-            operation,
-            parameter: _,
-        } => {
-            let Operation::Is(told) = operation else {
-                return false;
-            };
-            return told == 59;
-        }
-        Shown::Error {
-            id: _,
-            code: _,
-            parameter: _,
-        } => {
-            return false;
-        }
-        Shown::Reject {
-            id: _,
-            tag: _,
-            problem: _,
-        } => {
-            return false;
-        }
-    }
-}
-
 pub fn no_text() -> TextView
     ensures { λ r. ⌜ r ≡ noText ⌝ }
 {
@@ -268,23 +228,20 @@ pub fn no_text() -> TextView
     }
 }
 
-// The text of a component whose Facility value ends at a place of s.
-pub fn text_view(s: &[u8], shown: Shown, end: usize) -> TextView
-    requires { ⌜ (parameterLength shown ≤ end) × (end ≤ length (now s)) ⌝ }
+// The text that a component is told with, whose Facility value ends at a place of s.
+pub fn text_view(s: &[u8], shown: Shown, end: usize, text: Ussd) -> TextView
+    requires { ⌜ ((parameterLength shown ≤ end) × (end ≤ length (now s))) × TextTold (shownSeen (take end (now s)) shown) text ⌝ }
     ensures { λ r. ⌜ r ≡ textView (2 + length (now (s .entry))) (some (record { value = shownSeen (take end (now (s .entry))) shown; rest = drop end (now (s .entry)) })) ⌝ }
 {
-    if !is_extensible(shown) {
-        return no_text();
-    }
-    let at = end - components::shown::parameter_length(shown);
     let Ussd::Says {
         scheme,
         start: from,
         end: to,
-    } = parameters::text::read_ussd(&s[at..end])
+    } = text
     else {
         return no_text();
     };
+    let at = end - components::shown::parameter_length(shown);
     TextView {
         is_there: true,
         scheme: scheme,

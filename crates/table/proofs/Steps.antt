@@ -11,7 +11,7 @@ use borrow.Author.Tests.{eqb-true, eqb-false, eq-eqb, ne-eqb, le-leb, lt-leb}
 use lib.Dec.{eqb}
 use lib.ListN.{length, getD}
 use Rattle.codes.specs.Operations.{begins, waits}
-use Rattle.table.specs.Table.{size, named, hasOwn, hasPeer, Image, imageAt, soundIn, soundState, soundImage, entryOf, entryAt, soundEntries, zeros, valid, lowestFrom}
+use Rattle.table.specs.Table.{size, named, hasOwn, hasPeer, Image, imageAt, soundIn, soundState, soundImage, entryOf, entryAt, soundEntries, zeros, isNew, valid, lowestFrom}
 
 side : (used : Bool) (listed : ℕ → Bool) (id operation : ℕ)
     → cond used (listed operation) (eqb id 0 && eqb operation 0) ≡ soundIn used listed id operation
@@ -74,6 +74,14 @@ zero-entries t (suc k) e h = rw (zero-entries t k e (omega arith), zero-image t 
 pub fresh-is : (t : List ℕ) → length t ≡ 70 → zeros t (length t) ≡ true → true ≡ valid t
 unfolding valid
 fresh-is t l e = rw (eq-eqb (length t) 70 l, zero-entries t 14 (rw l at e) (omega arith))
+
+pub new-is : (t : List ℕ) → isNew t ≡ true → true ≡ valid t
+new-is t e = both (eqb (length t) 70) _ e λ l z. fresh-is t (eqb-true (length t) 70 l) z
+
+-- two entries more
+pub two-more : (t : List ℕ) (n : ℕ) → soundEntries t (2 * (n + 1)) ≡ (soundEntries t (2 * n) && soundImage (imageAt t (2 * n))) && soundImage (imageAt t (2 * n + 1))
+unfolding soundEntries
+two-more t n = let e : 2 * (n + 1) ≡ suc (suc (2 * n)) = omega arith in let f : 2 * n + 1 ≡ suc (2 * n) = omega arith in rw (e, f)
 
 -- the entry that a flag and a value name
 module _ (flag value : ℕ) where

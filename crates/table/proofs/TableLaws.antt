@@ -18,7 +18,8 @@ use Rattle.octets.specs.Splice.{splice}
 use Rattle.octets.proofs.SpliceLaws.{length-splice, getD-within, getD-before, getD-behind}
 use Rattle.codes.specs.Operations.{begins, waits}
 use Rattle.codes.proofs.IdLaws.{IsId, octet-back, id-back}
-use Rattle.table.specs.Table.{Waiting, Entry, closed, size, hasOwn, hasPeer, Image, imageAt, waitingIn, entryOf, soundIn, soundState, soundImage, entryAt, soundEntries, valid, idIn, operationIn, null, one, stateOf, octets, withEntry, lowestFrom, lowestClosed, holdsOne, holds}
+use Rattle.table.specs.Table.{Waiting, Entry, closed, size, hasOwn, hasPeer, Image, imageAt, waitingIn, entryOf, soundIn, soundState, soundImage, entryAt, soundEntries, isNew, valid, idIn, operationIn, null, one, stateOf, octets, withEntry, lowestFrom, lowestClosed, holdsOne, holds}
+use Rattle.table.proofs.Steps.{new-is}
 
 -- conjunctions
 both : (a b : Bool) → (a && b) ≡ true → (a ≡ true) × (b ≡ true)
@@ -305,6 +306,9 @@ same-again t k h l o =
     ap (λ (i : Image). splice t (size * k) (imageOctets i)) e
     ∙ ext-getD 0 (splice t (size * k) (imageOctets (imageAt t k))) t (length-splice t (size * k) (imageOctets (imageAt t k)) f)
     (λ i m. same-octet t k f i (ltb i (size * k)) (ltb i (size * k + size)) refl refl)
+
+pub new-valid : (t : List ℕ) → isNew t ≡ true → valid t ≡ true
+new-valid t e = sym (new-is t e)
 
 pub valid-zero : valid (replicate 70 0) ≡ true
 unfolding valid soundEntries soundImage

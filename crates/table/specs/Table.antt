@@ -106,6 +106,9 @@ unfoldable pub zeros : List ℕ → ℕ → Bool
 zeros table zero = true
 zeros table (suc n) = zeros table n && eqb (getD table n 0) 0
 
+abbrev pub isNew : List ℕ → Bool
+isNew table = eqb (length table) imageLength && zeros table (length table)
+
 -- "Any other image is damaged."
 unfoldable pub valid : List ℕ → Bool
 valid table = eqb (length table) imageLength && soundEntries table entries

@@ -13,8 +13,7 @@ use Rattle.octets.specs.Reader.{Answer, fault, sound}
 use Rattle.octets.specs.Splice.{splice}
 use Rattle.octets.proofs.ReaderLaws.{sound-inj, through, passed}
 use Rattle.codes.specs.Operations.{begins}
-use Rattle.parameters.specs.Suits.{suits}
-use Rattle.parameters.specs.declared.suits.Place.the-variants.{InvokeWritten}
+use Rattle.parameters.specs.Suits.{suits, InvokeWritten}
 use Rattle.components.specs.Component.{invoke, error}
 use Rattle.components.specs.Written.{octets, answer, codedLength, answerLength}
 use Rattle.messages.specs.Layout.{flag, value, register, facilityMessage}

@@ -44,12 +44,12 @@ fn show(s: &[u8], code: u8, written: usize, told: Told, cause: Part) -> Received
                 cause: showing::cause_view(s, cause),
             };
         }
-        Told::Is { shown, end } => {
+        Told::Is { shown, end, text } => {
             return Received {
                 code: code,
                 written: written,
                 shown: showing::component_view(s, shown, end),
-                text: showing::text_view(s, shown, end),
+                text: showing::text_view(s, shown, end, text),
                 cause: showing::cause_view(s, cause),
             };
         }

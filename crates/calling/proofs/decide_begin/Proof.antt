@@ -6,8 +6,7 @@ use borrow.Author.Tests.{not-true, not-false}
 use mathlib.Core.Option.{none, some}
 use lib.ListN.{length}
 use Rattle.codes.specs.Operations.{begins}
-use Rattle.parameters.specs.Suits.{suits}
-use Rattle.parameters.specs.declared.suits.Place.the-variants.{InvokeWritten}
+use Rattle.parameters.specs.Suits.{suits, InvokeWritten}
 use Rattle.components.specs.Written.{codedLength}
 use Rattle.table.specs.Table.{valid, lowestClosed}
 use Rattle.calling.specs.Seen.{lengthRefusal}
@@ -18,7 +17,7 @@ use Rattle.calling.proofs.decide_begin.Reads as reads
 use Rattle.calling.proofs.decide_begin.Lts as lts
 use Rattle.calling.proofs.length_refusal.Reads as length-refusal-reads
 use Rattle.codes.proofs.operations.is_begun.Reads as is-begun-reads
-use Rattle.parameters.proofs.suits.is_suited.Reads as is-suited-reads
+use Rattle.parameters.proofs.suits.suits_invoke_written.Reads as suits-invoke-written-reads
 use Rattle.sending.proofs.register_length.Reads as register-length-reads
 use Rattle.table.proofs.is_valid.Reads as is-valid-reads
 use Rattle.table.proofs.lowest_closed.Reads as lowest-closed-reads
@@ -59,8 +58,8 @@ returns-3 c =
     let l : lowestClosed (a .table .now) ≡ none = sym (rw (c .enum-told .given .1) at (c .before .before .lowest-closed .ensures)) in
     (begin-full (a .table .now) (a .room) (a .operation) (a .id) (a .p .now) d b l, (tt, tt))
 
-is-suited-requires : tie.Need-is-suited-requires
-is-suited-requires c κs = search needs
+suits-invoke-written-requires : tie.Need-suits-invoke-written-requires
+suits-invoke-written-requires c κs = search needs
 
 returns-4 : tie.Need-returns-4
 returns-4 c =
@@ -69,7 +68,7 @@ returns-4 c =
     let b : begins (a .operation) ≡ true = sym (c .before .before .before .before .before .before .before .is-begun .ensures) ∙ not-false _ (c .before .before .before .before .before .before .if2 .left) in
     let v = c .before .before .before .v .given .0 .0 in
     let l : lowestClosed (a .table .now) ≡ some v = sym (rw (c .before .before .before .v .given .1) at (c .before .before .before .before .before .lowest-closed .ensures)) in
-    let s : suits InvokeWritten (a .operation) (a .p .now) ≡ false = sym (c .before .is-suited .ensures) ∙ not-true _ (c .if3 .taken) in
+    let s : suits InvokeWritten (a .operation) (a .p .now) ≡ false = sym (c .before .suits-invoke-written .ensures) ∙ not-true _ (c .if3 .taken) in
     (begin-unsuited (a .table .now) (a .room) (a .operation) (a .id) (a .p .now) d b v l s, (tt, tt))
 
 returns-5 : tie.Need-returns-5
@@ -79,7 +78,7 @@ returns-5 c =
     let b : begins (a .operation) ≡ true = sym (c .before .before .before .before .before .before .before .before .is-begun .ensures) ∙ not-false _ (c .before .before .before .before .before .before .before .if2 .left) in
     let v = c .before .before .before .before .v .given .0 .0 in
     let l : lowestClosed (a .table .now) ≡ some v = sym (rw (c .before .before .before .before .v .given .1) at (c .before .before .before .before .before .before .lowest-closed .ensures)) in
-    let s : suits InvokeWritten (a .operation) (a .p .now) ≡ true = sym (c .before .before .is-suited .ensures) ∙ not-false _ (c .before .if3 .left) in
+    let s : suits InvokeWritten (a .operation) (a .p .now) ≡ true = sym (c .before .before .suits-invoke-written .ensures) ∙ not-false _ (c .before .if3 .left) in
     (begin-long (a .table .now) (a .room) (a .operation) (a .id) (a .p .now) d b v l s (c .if4 .taken), (tt, tt))
 
 register-length-requires : tie.Need-register-length-requires
@@ -95,7 +94,7 @@ returns-6 c =
     let b : begins (a .operation) ≡ true = sym (c .before .before .before .before .before .before .before .before .before .before .before .is-begun .ensures) ∙ not-false _ (c .before .before .before .before .before .before .before .before .before .before .if2 .left) in
     let v = c .before .before .before .before .before .before .before .v .given .0 .0 in
     let l : lowestClosed (a .table .now) ≡ some v = sym (rw (c .before .before .before .before .before .before .before .v .given .1) at (c .before .before .before .before .before .before .before .before .before .lowest-closed .ensures)) in
-    let s : suits InvokeWritten (a .operation) (a .p .now) ≡ true = sym (c .before .before .before .before .before .is-suited .ensures) ∙ not-false _ (c .before .before .before .before .if3 .left) in
+    let s : suits InvokeWritten (a .operation) (a .p .now) ≡ true = sym (c .before .before .before .before .before .suits-invoke-written .ensures) ∙ not-false _ (c .before .before .before .before .if3 .left) in
     let r = c .before .length-refusal .result in
     let e : r ≡ lengthRefusal (7 + codedLength (length (a .p .now))) (a .room) = rw (c .before .before .register-length .ensures) at (c .before .length-refusal .ensures) in
     (begin-refused (a .table .now) (a .room) (a .operation) (a .id) (a .p .now) d b v l s r e (c .if5 .taken), (tt, tt))
@@ -107,7 +106,7 @@ returns-7 c =
     let b : begins (a .operation) ≡ true = sym (c .before .before .before .before .before .before .before .before .before .before .before .is-begun .ensures) ∙ not-false _ (c .before .before .before .before .before .before .before .before .before .before .if2 .left) in
     let v = c .before .before .before .before .before .before .before .v .given .0 .0 in
     let l : lowestClosed (a .table .now) ≡ some v = sym (rw (c .before .before .before .before .before .before .before .v .given .1) at (c .before .before .before .before .before .before .before .before .before .lowest-closed .ensures)) in
-    let s : suits InvokeWritten (a .operation) (a .p .now) ≡ true = sym (c .before .before .before .before .before .is-suited .ensures) ∙ not-false _ (c .before .before .before .before .if3 .left) in
+    let s : suits InvokeWritten (a .operation) (a .p .now) ≡ true = sym (c .before .before .before .before .before .suits-invoke-written .ensures) ∙ not-false _ (c .before .before .before .before .if3 .left) in
     let r = c .before .length-refusal .result in
     let e : r ≡ lengthRefusal (7 + codedLength (length (a .p .now))) (a .room) = rw (c .before .before .register-length .ensures) at (c .before .length-refusal .ensures) in
     let g = begin-goes (a .table .now) (a .room) (a .operation) (a .id) (a .p .now) d b v l s r e (c .if5 .left) (c .before .before .before .before .before .before .before .before .before .before .before .before .before .before .before .before .fits .id) in
@@ -125,7 +124,7 @@ decide-begin-spec =
     enum-known-v
     enum-told
     returns-3
-    is-suited-requires
+    suits-invoke-written-requires
     returns-4
     returns-5
     register-length-requires

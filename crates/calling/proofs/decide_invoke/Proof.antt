@@ -6,8 +6,7 @@ use borrow.Author.Tests.{not-true, not-false}
 use lib.ListN.{length}
 use Rattle.octets.specs.Reader.{fault, sound}
 use Rattle.codes.specs.Operations.{begins}
-use Rattle.parameters.specs.Suits.{suits}
-use Rattle.parameters.specs.declared.suits.Place.the-variants.{InvokeWritten}
+use Rattle.parameters.specs.Suits.{suits, InvokeWritten}
 use Rattle.components.specs.Written.{codedLength}
 use Rattle.table.specs.Table.{valid, entryAt}
 use Rattle.table.specs.Seen.{invokeSeen, slotSeen}
@@ -24,7 +23,7 @@ use Rattle.calling.proofs.find_open.Reads as find-open-reads
 use Rattle.calling.proofs.length_refusal.Reads as length-refusal-reads
 use Rattle.codes.proofs.operations.is_begun.Reads as is-begun-reads
 use Rattle.judging.proofs.is_full.Reads as is-full-reads
-use Rattle.parameters.proofs.suits.is_suited.Reads as is-suited-reads
+use Rattle.parameters.proofs.suits.suits_invoke_written.Reads as suits-invoke-written-reads
 use Rattle.sending.proofs.coded_length.Reads as coded-length-reads
 use Rattle.table.proofs.is_valid.Reads as is-valid-reads
 use Rattle.table.proofs.read_entry.Reads as read-entry-reads
@@ -83,8 +82,8 @@ returns-4 c =
     let f : full (invokeSeen (slot .own)) ≡ true = sym (c .before .is-full .ensures) ∙ c .if3 .taken in
     (invoke-full (a .table .now) (a .room) (a .flag) (a .value) (a .operation) (a .id) (a .p .now) d b k t slot seen f, (tt, tt))
 
-is-suited-requires : tie.Need-is-suited-requires
-is-suited-requires c κs = search needs
+suits-invoke-written-requires : tie.Need-suits-invoke-written-requires
+suits-invoke-written-requires c κs = search needs
 
 returns-5 : tie.Need-returns-5
 returns-5 c =
@@ -96,7 +95,7 @@ returns-5 c =
     let slot = c .before .before .before .before .read-entry .result in
     let seen : slotSeen slot ≡ entryAt (a .table .now) k = c .before .before .before .before .read-entry .ensures in
     let f : full (invokeSeen (slot .own)) ≡ false = sym (c .before .before .before .is-full .ensures) ∙ c .before .before .if3 .left in
-    let s : suits InvokeWritten (a .operation) (a .p .now) ≡ false = sym (c .before .is-suited .ensures) ∙ not-true _ (c .if4 .taken) in
+    let s : suits InvokeWritten (a .operation) (a .p .now) ≡ false = sym (c .before .suits-invoke-written .ensures) ∙ not-true _ (c .if4 .taken) in
     (invoke-unsuited (a .table .now) (a .room) (a .flag) (a .value) (a .operation) (a .id) (a .p .now) d b k t slot seen f s, (tt, tt))
 
 returns-6 : tie.Need-returns-6
@@ -109,7 +108,7 @@ returns-6 c =
     let slot = c .before .before .before .before .before .read-entry .result in
     let seen : slotSeen slot ≡ entryAt (a .table .now) k = c .before .before .before .before .before .read-entry .ensures in
     let f : full (invokeSeen (slot .own)) ≡ false = sym (c .before .before .before .before .is-full .ensures) ∙ c .before .before .before .if3 .left in
-    let s : suits InvokeWritten (a .operation) (a .p .now) ≡ true = sym (c .before .before .is-suited .ensures) ∙ not-false _ (c .before .if4 .left) in
+    let s : suits InvokeWritten (a .operation) (a .p .now) ≡ true = sym (c .before .before .suits-invoke-written .ensures) ∙ not-false _ (c .before .if4 .left) in
     (invoke-long (a .table .now) (a .room) (a .flag) (a .value) (a .operation) (a .id) (a .p .now) d b k t slot seen f s (c .if5 .taken), (tt, tt))
 
 coded-length-requires : tie.Need-coded-length-requires
@@ -128,7 +127,7 @@ returns-7 c =
     let slot = c .before .before .before .before .before .before .before .before .read-entry .result in
     let seen : slotSeen slot ≡ entryAt (a .table .now) k = c .before .before .before .before .before .before .before .before .read-entry .ensures in
     let f : full (invokeSeen (slot .own)) ≡ false = sym (c .before .before .before .before .before .before .before .is-full .ensures) ∙ c .before .before .before .before .before .before .if3 .left in
-    let s : suits InvokeWritten (a .operation) (a .p .now) ≡ true = sym (c .before .before .before .before .before .is-suited .ensures) ∙ not-false _ (c .before .before .before .before .if4 .left) in
+    let s : suits InvokeWritten (a .operation) (a .p .now) ≡ true = sym (c .before .before .before .before .before .suits-invoke-written .ensures) ∙ not-false _ (c .before .before .before .before .if4 .left) in
     let r = c .before .length-refusal .result in
     let e : r ≡ lengthRefusal (3 + codedLength (length (a .p .now))) (a .room) = rw (c .before .before .coded-length .ensures) at (c .before .length-refusal .ensures) in
     (invoke-refused (a .table .now) (a .room) (a .flag) (a .value) (a .operation) (a .id) (a .p .now) d b k t slot seen f s r e (c .if6 .taken), (tt, tt))
@@ -144,7 +143,7 @@ returns-8 c =
     let slot = c .before .before .before .before .before .before .before .before .read-entry .result in
     let seen : slotSeen slot ≡ entryAt (a .table .now) k = c .before .before .before .before .before .before .before .before .read-entry .ensures in
     let f : full (invokeSeen (slot .own)) ≡ false = sym (c .before .before .before .before .before .before .before .is-full .ensures) ∙ c .before .before .before .before .before .before .if3 .left in
-    let s : suits InvokeWritten (a .operation) (a .p .now) ≡ true = sym (c .before .before .before .before .before .is-suited .ensures) ∙ not-false _ (c .before .before .before .before .if4 .left) in
+    let s : suits InvokeWritten (a .operation) (a .p .now) ≡ true = sym (c .before .before .before .before .before .suits-invoke-written .ensures) ∙ not-false _ (c .before .before .before .before .if4 .left) in
     let r = c .before .length-refusal .result in
     let e : r ≡ lengthRefusal (3 + codedLength (length (a .p .now))) (a .room) = rw (c .before .before .coded-length .ensures) at (c .before .length-refusal .ensures) in
     let g = invoke-goes (a .table .now) (a .room) (a .flag) (a .value) (a .operation) (a .id) (a .p .now) d b k t slot seen f s r e (c .if6 .left) (c .before .before .before .before .before .before .before .before .before .before .before .before .before .before .before .before .before .before .before .fits .id) w in
@@ -165,7 +164,7 @@ decide-invoke-spec =
     read-entry-requires
     is-full-requires
     returns-4
-    is-suited-requires
+    suits-invoke-written-requires
     returns-5
     returns-6
     coded-length-requires

@@ -5,8 +5,7 @@ use mathlib.Core.Bool.{true, false}
 use borrow.Author.Tests.{not-true, not-false}
 use lib.ListN.{length}
 use Rattle.octets.specs.Reader.{fault, sound}
-use Rattle.parameters.specs.Suits.{suits}
-use Rattle.parameters.specs.declared.suits.Place.the-variants.{ResultWritten}
+use Rattle.parameters.specs.Suits.{suits, ResultWritten}
 use Rattle.components.specs.Written.{answerLength}
 use Rattle.table.specs.Table.{valid, entryAt}
 use Rattle.table.specs.Seen.{invokeSeen, slotSeen}
@@ -24,7 +23,7 @@ use Rattle.calling.proofs.find_open.Reads as find-open-reads
 use Rattle.calling.proofs.length_refusal.Reads as length-refusal-reads
 use Rattle.judging.proofs.is_among.Reads as is-among-reads
 use Rattle.judging.proofs.waiting_operation.Reads as waiting-operation-reads
-use Rattle.parameters.proofs.suits.is_suited.Reads as is-suited-reads
+use Rattle.parameters.proofs.suits.suits_result_written.Reads as suits-result-written-reads
 use Rattle.sending.proofs.answer_length.Reads as answer-length-reads
 use Rattle.table.proofs.is_valid.Reads as is-valid-reads
 use Rattle.table.proofs.read_entry.Reads as read-entry-reads
@@ -74,8 +73,8 @@ returns-3 c =
 waiting-operation-requires : tie.Need-waiting-operation-requires
 waiting-operation-requires c κs = search needs
 
-is-suited-requires : tie.Need-is-suited-requires
-is-suited-requires c κs = search needs
+suits-result-written-requires : tie.Need-suits-result-written-requires
+suits-result-written-requires c κs = search needs
 
 returns-4 : tie.Need-returns-4
 returns-4 c =
@@ -88,7 +87,7 @@ returns-4 c =
     let m : among (a .id) (invokeSeen (slot .peer)) ≡ true = sym (among-is (invokeSeen (slot .peer)) (c .before .before .before .before .before .before .before .before .before .before .before .before .before .before .fits .id) (c .before .before .before .before .is-among .ensures)) ∙ not-false _ (c .before .before .before .if2 .left) in
     let o = c .before .before .waiting-operation .result in
     let q : o ≡ operationOf (a .id) (invokeSeen (slot .peer)) = operation-is (invokeSeen (slot .peer)) (c .before .before .before .before .before .before .before .before .before .before .before .before .before .before .fits .id) (c .before .before .waiting-operation .ensures) in
-    let s : suits ResultWritten o (a .p .now) ≡ false = sym (c .before .is-suited .ensures) ∙ not-true _ (c .if3 .taken) in
+    let s : suits ResultWritten o (a .p .now) ≡ false = sym (c .before .suits-result-written .ensures) ∙ not-true _ (c .if3 .taken) in
     (result-unsuited (a .table .now) (a .room) (a .flag) (a .value) (a .id) (a .p .now) d k t slot seen m o q s, (tt, tt))
 
 returns-5 : tie.Need-returns-5
@@ -102,7 +101,7 @@ returns-5 c =
     let m : among (a .id) (invokeSeen (slot .peer)) ≡ true = sym (among-is (invokeSeen (slot .peer)) (c .before .before .before .before .before .before .before .before .before .before .before .before .before .before .before .fits .id) (c .before .before .before .before .before .is-among .ensures)) ∙ not-false _ (c .before .before .before .before .if2 .left) in
     let o = c .before .before .before .waiting-operation .result in
     let q : o ≡ operationOf (a .id) (invokeSeen (slot .peer)) = operation-is (invokeSeen (slot .peer)) (c .before .before .before .before .before .before .before .before .before .before .before .before .before .before .before .fits .id) (c .before .before .before .waiting-operation .ensures) in
-    let s : suits ResultWritten o (a .p .now) ≡ true = sym (c .before .before .is-suited .ensures) ∙ not-false _ (c .before .if3 .left) in
+    let s : suits ResultWritten o (a .p .now) ≡ true = sym (c .before .before .suits-result-written .ensures) ∙ not-false _ (c .before .if3 .left) in
     (result-long (a .table .now) (a .room) (a .flag) (a .value) (a .id) (a .p .now) d k t slot seen m o q s (c .if4 .taken), (tt, tt))
 
 answer-length-requires : tie.Need-answer-length-requires
@@ -122,7 +121,7 @@ returns-6 c =
     let m : among (a .id) (invokeSeen (slot .peer)) ≡ true = sym (among-is (invokeSeen (slot .peer)) (c .before .before .before .before .before .before .before .before .before .before .before .before .before .before .before .before .before .before .fits .id) (c .before .before .before .before .before .before .before .before .is-among .ensures)) ∙ not-false _ (c .before .before .before .before .before .before .before .if2 .left) in
     let o = c .before .before .before .before .before .before .waiting-operation .result in
     let q : o ≡ operationOf (a .id) (invokeSeen (slot .peer)) = operation-is (invokeSeen (slot .peer)) (c .before .before .before .before .before .before .before .before .before .before .before .before .before .before .before .before .before .before .fits .id) (c .before .before .before .before .before .before .waiting-operation .ensures) in
-    let s : suits ResultWritten o (a .p .now) ≡ true = sym (c .before .before .before .before .before .is-suited .ensures) ∙ not-false _ (c .before .before .before .before .if3 .left) in
+    let s : suits ResultWritten o (a .p .now) ≡ true = sym (c .before .before .before .before .before .suits-result-written .ensures) ∙ not-false _ (c .before .before .before .before .if3 .left) in
     let r = c .before .length-refusal .result in
     let e : r ≡ lengthRefusal (3 + answerLength (length (a .p .now))) (a .room) = rw (c .before .before .answer-length .ensures) at (c .before .length-refusal .ensures) in
     (result-refused (a .table .now) (a .room) (a .flag) (a .value) (a .id) (a .p .now) d k t slot seen m o q s r e (c .if5 .taken), (tt, tt))
@@ -139,7 +138,7 @@ returns-7 c =
     let m : among (a .id) (invokeSeen (slot .peer)) ≡ true = sym (among-is (invokeSeen (slot .peer)) (c .before .before .before .before .before .before .before .before .before .before .before .before .before .before .before .before .before .before .fits .id) (c .before .before .before .before .before .before .before .before .is-among .ensures)) ∙ not-false _ (c .before .before .before .before .before .before .before .if2 .left) in
     let o = c .before .before .before .before .before .before .waiting-operation .result in
     let q : o ≡ operationOf (a .id) (invokeSeen (slot .peer)) = operation-is (invokeSeen (slot .peer)) (c .before .before .before .before .before .before .before .before .before .before .before .before .before .before .before .before .before .before .fits .id) (c .before .before .before .before .before .before .waiting-operation .ensures) in
-    let s : suits ResultWritten o (a .p .now) ≡ true = sym (c .before .before .before .before .before .is-suited .ensures) ∙ not-false _ (c .before .before .before .before .if3 .left) in
+    let s : suits ResultWritten o (a .p .now) ≡ true = sym (c .before .before .before .before .before .suits-result-written .ensures) ∙ not-false _ (c .before .before .before .before .if3 .left) in
     let r = c .before .length-refusal .result in
     let e : r ≡ lengthRefusal (3 + answerLength (length (a .p .now))) (a .room) = rw (c .before .before .answer-length .ensures) at (c .before .length-refusal .ensures) in
     let g = result-goes (a .table .now) (a .room) (a .flag) (a .value) (a .id) (a .p .now) d k t slot seen m o q s r e (c .if5 .left) w in
@@ -159,7 +158,7 @@ decide-result-spec =
     is-among-requires
     returns-3
     waiting-operation-requires
-    is-suited-requires
+    suits-result-written-requires
     returns-4
     returns-5
     answer-length-requires

@@ -20,7 +20,7 @@ enum-known-verdict-2 : tie.Need-enum-known-verdict-2
 enum-known-verdict-2 c = search needs
 
 returns-2 : tie.Need-returns-2
-returns-2 c = (rw (c .before .verdict2 .given .1), search needs)
+returns-2 c = (rw (c .before .verdict2 .given .1), ((c .before .before .before .before .pre .0, rw (c .before .verdict2 .given .1) at (c .before .before .before .before .pre .1)), tt))
 
 pub rule-spec : {M : Type 1} → statement M
 rule-spec =

@@ -1,5 +1,5 @@
 use borrow.Author.Needs.{needs}
-use mathlib.Core.Path.{_≡_, sym, _∙_}
+use mathlib.Core.Path.{_≡_, refl, sym, _∙_}
 use mathlib.Core.Bool.{true, false}
 use Rattle.codes.specs.Errors.{listed}
 use borrow.Author.Tests.{not-true, not-false}
@@ -18,7 +18,7 @@ is-among-requires c κs = search needs
 
 returns : tie.Need-returns
 unfolding judgeError
-returns c = rw (sym (among-is (invokeSeen (c .before .before .args .slot .own)) (c .before .before .fits .id) (c .before .is-among .ensures)) ∙ not-true _ (c .if1 .taken))
+returns c = (rw (sym (among-is (invokeSeen (c .before .before .args .slot .own)) (c .before .before .fits .id) (c .before .is-among .ensures)) ∙ not-true _ (c .if1 .taken)), λ p. tt)
 
 is-listed-requires : tie.Need-is-listed-requires
 is-listed-requires c κs = search needs
@@ -27,7 +27,7 @@ returns-2 : tie.Need-returns-2
 unfolding judgeError
 returns-2 c =
     let l : listed (c .before .before .before .before .args .code) ≡ false = sym (c .before .is-listed .ensures) ∙ not-true _ (c .if2 .taken) in
-    rw (sym (among-is (invokeSeen (c .before .before .before .before .args .slot .own)) (c .before .before .before .before .fits .id) (c .before .before .before .is-among .ensures)) ∙ not-false _ (c .before .before .if1 .left), l)
+    (rw (sym (among-is (invokeSeen (c .before .before .before .before .args .slot .own)) (c .before .before .before .before .fits .id) (c .before .before .before .is-among .ensures)) ∙ not-false _ (c .before .before .if1 .left), l), λ p. tt)
 
 returns-3 : tie.Need-returns-3
 unfolding judgeError
@@ -35,7 +35,7 @@ returns-3 c =
     let w = c .before .before .before .before .args .slot .own in
     let m = sym (among-is (invokeSeen w) (c .before .before .before .before .fits .id) (c .before .before .before .is-among .ensures)) ∙ not-false _ (c .before .before .if1 .left) in
     let l : listed (c .before .before .before .before .args .code) ≡ true = sym (c .before .is-listed .ensures) ∙ not-false _ (c .if2 .left) in
-    rw (m, l, cleared (c .before .before .before .before .args .id) w m)
+    (rw (m, l, cleared (c .before .before .before .before .args .id) w m), λ p. (refl, tt))
 
 pub judge-error-spec : {M : Type 1} → statement M
 judge-error-spec =

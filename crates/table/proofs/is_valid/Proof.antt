@@ -3,56 +3,68 @@ use native.Mathlib.Omega.{arith}
 use native.Mathlib.Numerals.{add-one}
 use mathlib.Core.Bool.{true}
 use mathlib.Core.Path.{_≡_, refl, sym, _∙_}
-use Prim.Native.Nat.{_≤_, _-_}
+use Prim.Native.Nat.{_+_, _*_, _≤_, _-_}
 use lib.ListN.{length}
-use Rattle.table.specs.Table.{soundEntries, zeros}
-use Rattle.table.proofs.Steps.{other-length, fresh-is, all-seen}
+use Rattle.table.specs.Table.{soundEntries}
+use Rattle.table.proofs.Steps.{other-length, new-is, two-more, all-seen}
 use Rattle.table.proofs.is_valid.Statement.{statement}
 use Rattle.table.proofs.is_valid.Tie as tie
 use Rattle.table.proofs.is_valid.Reads as reads
 use Rattle.table.proofs.is_valid.Lts as lts
+use Rattle.table.proofs.is_new.Reads as is-new-reads
 use Rattle.table.proofs.is_sound.Reads as is-sound-reads
 
 abbrev Inv-loop : tie.InvT-loop
-Inv-loop table sound₀ k₀ sound k = (k ≤ 14) × (sound ≡ soundEntries table k)
+Inv-loop table sound₀ pair₀ sound pair = (pair ≤ 7) × (sound ≡ soundEntries table (2 * pair))
 
 abbrev μ-loop : tie.MeasureT-loop
-μ-loop table sound₀ k₀ sound k = 14 - k
+μ-loop table sound₀ pair₀ sound pair = 7 - pair
+
+is-new-requires : tie.Need-is-new-requires Inv-loop μ-loop
+is-new-requires c κs = search needs
 
 returns : tie.Need-returns Inv-loop μ-loop
-returns c = other-length (c .before .before .args .table .now) (c .if1 .taken)
-
-is-fresh-requires : tie.Need-is-fresh-requires Inv-loop μ-loop
-is-fresh-requires c κs = search needs
+returns c = new-is (c .before .before .before .args .table .now) (sym (c .before .is-new .ensures) ∙ c .if1 .taken)
 
 returns-2 : tie.Need-returns-2 Inv-loop μ-loop
-returns-2 c =
-    let t = c .before .before .before .before .args .table .now in
-    let zero : zeros t (length t) ≡ true = sym (c .before .is-fresh .ensures) ∙ c .if2 .taken in
-    fresh-is t (c .before .before .if1 .left) zero
+returns-2 c = other-length (c .before .before .before .before .args .table .now) (c .if2 .taken)
 
 loop-holds : tie.Need-loop-holds Inv-loop μ-loop
 unfolding soundEntries
 loop-holds c = (omega arith, refl)
 
+mul-is-sound : tie.Need-mul-is-sound Inv-loop μ-loop
+mul-is-sound c = search needs
+
 is-sound-requires : tie.Need-is-sound-requires Inv-loop μ-loop
 is-sound-requires c κs = search needs
 
-add-k : tie.Need-add-k Inv-loop μ-loop
-add-k c = search needs
+mul-is-sound-2 : tie.Need-mul-is-sound-2 Inv-loop μ-loop
+mul-is-sound-2 c = search needs
+
+add-is-sound : tie.Need-add-is-sound Inv-loop μ-loop
+add-is-sound c = search needs
+
+is-sound-requires-2 : tie.Need-is-sound-requires-2 Inv-loop μ-loop
+is-sound-requires-2 c κs = search needs
+
+add-pair : tie.Need-add-pair Inv-loop μ-loop
+add-pair c = search needs
 
 loop-less : tie.Need-loop-less Inv-loop μ-loop
 loop-less c = search needs
 
 loop-again : tie.Need-loop-again Inv-loop μ-loop
-unfolding soundEntries
-loop-again c = (omega arith, rw (add-one, c .is-sound .ensures, c .before .before .loop .inv .1))
+loop-again c =
+    let t = c .before .before .before .before .before .before .before .before .args .table .now in
+    (omega arith, rw (two-more t (c .before .before .before .loop .pair), c .is-sound2 .ensures, c .before .is-sound .ensures, c .before .before .before .loop .inv .1))
 
 returns-3 : tie.Need-returns-3 Inv-loop μ-loop
 returns-3 c =
     let t = c .before .before .before .before .before .before .args .table .now in
-    let long : length t ≡ 70 = c .before .before .before .before .if1 .left in
-    c .before .loop .inv .1 ∙ all-seen t (c .before .loop .k) long (c .before .loop .inv .0) (c .loop-test .left)
+    let long : length t ≡ 70 = c .before .before .if2 .left in
+    let v = c .before .loop .inv in
+    v .1 ∙ all-seen t (2 * (c .before .loop .pair)) long (omega arith) (omega (arith, c .loop-test .left))
 
 pub is-valid-spec : {M : Type 1} → statement M
 is-valid-spec =
@@ -60,12 +72,16 @@ is-valid-spec =
     (tie.spec
     Inv-loop
     μ-loop
+    is-new-requires
     returns
-    is-fresh-requires
     returns-2
     loop-holds
+    mul-is-sound
     is-sound-requires
-    add-k
+    mul-is-sound-2
+    add-is-sound
+    is-sound-requires-2
+    add-pair
     loop-less
     loop-again
     returns-3)

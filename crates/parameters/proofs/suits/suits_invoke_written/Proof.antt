@@ -1,7 +1,9 @@
 use borrow.Author.Needs.{needs}
-use mathlib.Core.Path.{_∙_}
+use mathlib.Core.Path.{_≡_, _∙_}
+use mathlib.Core.Bool.{true, _&&_}
+use lib.Dec.{leb}
 use borrow.Author.Tests.{eq-eqb, ne-eqb}
-use Rattle.parameters.specs.Suits.{suitsInvokeWritten}
+use Rattle.parameters.specs.Suits.{suits, suitsInvokeWritten}
 use Rattle.parameters.proofs.suits.suits_invoke_written.Statement.{statement}
 use Rattle.parameters.proofs.suits.suits_invoke_written.Tie as tie
 use Rattle.parameters.proofs.suits.suits_invoke_written.Reads as reads
@@ -15,28 +17,31 @@ is-one-requires : tie.Need-is-one-requires
 is-one-requires c κs = search needs
 
 returns : tie.Need-returns
-unfolding suitsInvokeWritten
+unfolding suits suitsInvokeWritten
 returns c = c .is-one .ensures ∙ rw (eq-eqb _ _ (c .before .if1 .taken))
 
 is-ss-for-bs-requires : tie.Need-is-ss-for-bs-requires
 is-ss-for-bs-requires c κs = search needs
 
 returns-2 : tie.Need-returns-2
-unfolding suitsInvokeWritten
-returns-2 c = c .is-ss-for-bs .ensures ∙ rw (ne-eqb _ _ (c .before .before .if1 .left), c .before .if2 .taken)
+unfolding suits suitsInvokeWritten
+returns-2 c =
+    let o = c .before .before .before .before .args .operation in
+    let i : leb 11 o && leb o 14 ≡ true = c .before .if2 .taken in
+    c .is-ss-for-bs .ensures ∙ rw (ne-eqb _ _ (c .before .before .if1 .left), i)
 
 is-service-code-requires : tie.Need-is-service-code-requires
 is-service-code-requires c κs = search needs
 
 returns-3 : tie.Need-returns-3
-unfolding suitsInvokeWritten
+unfolding suits suitsInvokeWritten
 returns-3 c = c .is-service-code .ensures ∙ rw (ne-eqb _ _ (c .before .before .before .if1 .left), c .before .before .if2 .left, eq-eqb _ _ (c .before .if3 .taken))
 
 is-ussd-requires : tie.Need-is-ussd-requires
 is-ussd-requires c κs = search needs
 
 returns-4 : tie.Need-returns-4
-unfolding suitsInvokeWritten
+unfolding suits suitsInvokeWritten
 returns-4 c = rw (ne-eqb _ _ (c .before .before .before .if1 .left), c .before .before .if2 .left, ne-eqb _ _ (c .before .if3 .left), c .is-ussd .ensures)
 
 pub suits-invoke-written-spec : {M : Type 1} → statement M

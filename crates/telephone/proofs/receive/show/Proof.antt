@@ -30,7 +30,7 @@ enum-known-told : tie.Need-enum-known-told
 enum-known-told c = search needs
 
 component-view-requires : tie.Need-component-view-requires
-component-view-requires c κs = rw (c .before .told .given .1) at (c .before .before .before .before .pre .0)
+component-view-requires c κs = let w = rw (c .before .told .given .1) at (c .before .before .before .before .pre .0) in w .0
 
 text-view-requires : tie.Need-text-view-requires
 text-view-requires c κs = rw (c .before .before .told .given .1) at (c .before .before .before .before .before .pre .0)
