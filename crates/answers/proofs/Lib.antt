@@ -3,3 +3,4 @@ mod PageLaws
 mod AnswerLaws
 mod CallLaws
 mod RoomLaws
+pub mod FortyLaws

@@ -193,7 +193,7 @@ fn except_invoke(s: &[u8], told: Told) -> Told
             operation: _,
             parameter: _,
         } => {
-            return Told::Nothing;
+            return Told::Nothing; // an Invoke
         }
         Shown::Result {
             id: _,
@@ -353,7 +353,7 @@ pub fn reply_first(message: &[u8]) -> u8
 {
     let first = first_of(message);
     messages::layout::sent_first(
-        messages::layout::flag_of(first),
+        messages::layout::flag_of(first), // turned by sent_first
         messages::layout::value_of(first),
     )
 }
@@ -367,7 +367,7 @@ fn decide_entry(table: &[u8], message: &[u8]) -> Decision
 {
     let first = message[0];
     if messages::layout::value_of(first) == 7 {
-        return untold(Act::Silent(1));
+        return untold(Act::Silent(1)); // it names none
     }
     let slot = table::read_entry(table, entry_of(message));
     decide_by_type(

@@ -116,6 +116,14 @@ spaced word text h k l =
     let b = length-append (word ++ (32 ∷ [])) text in
     plain-line (word ++ (32 ∷ []) ++ text) (plain-append (word ++ (32 ∷ [])) text (plain-append word (32 ∷ []) h refl) k) (omega arith)
 
+-- a number with words before and behind it
+pub count-forty : (word text : List ℕ) (n : ℕ) → plain word ≡ true → plain text ≡ true → length word + length text ≤ 20 → forty (word ++ decimal n ++ text ++ (10 ∷ [])) ≡ true
+count-forty word text n h k l =
+    let t = twenty n in
+    let a = length-append word (decimal n) in
+    let b = length-append (word ++ decimal n) text in
+    plain-line (word ++ decimal n ++ text) (plain-append (word ++ decimal n) text (plain-append word (decimal n) h (t .0)) k) (omega arith)
+
 pub number-forty : (word : List ℕ) (n : ℕ) → plain word ≡ true → length word ≤ 16 → forty (numberLine word n) ≡ true
 unfolding numberLine
 number-forty word n h l = let t = twenty n in spaced word (decimal n) h (t .0) (omega arith)
