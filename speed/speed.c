@@ -113,10 +113,11 @@ static void measure_menu(const char *name, size_t n, size_t tail, void (*other)(
 int main(int argc, char **argv)
 {
     if (argc > 2) { /* for counting instructions: so many calls of one kind */
+        void (*call)(int) = strcmp(argv[2], "begin") == 0 ? begin : receive;
         make_menu((size_t)atoi(argv[2]), argc > 3 ? (size_t)atoi(argv[3]) : 0);
         for (int i = 0; i < atoi(argv[1]); i++) {
             memset(tables[0], 0, SMR_TABLE);
-            receive(0);
+            call(0);
         }
         return 0;
     }
