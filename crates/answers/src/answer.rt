@@ -98,7 +98,7 @@ fn not_understood(page: &mut [u8], number: u64) -> usize
     put_words(page, b, b" not understood\n\n")
 }
 
-pub fn too_long(page: &mut [u8], number: u64) -> usize
+fn too_long(page: &mut [u8], number: u64) -> usize
     requires { ⌜ 64 ≤ length (now page) ⌝ }
     ensures writes { λ _. ⌜ now (page .exit) ≡ splice (now (page .entry)) 0 (tooLong number) ⌝ }
     ensures next { λ r. ⌜ r ≡ length (tooLong number) ⌝ }
