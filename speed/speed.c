@@ -13,7 +13,10 @@
 #include <osmocom/gsm/gsm0480.h>
 #endif
 
-enum { CALLS = 200, RUNS = 40000 };
+#ifndef RUNS
+#define RUNS 40000
+#endif
+enum { CALLS = 200 };
 
 /* Each call has a fresh table, made before the clock starts. */
 static uint8_t tables[CALLS][SMR_TABLE], message[300], reply[SMR_REPLY], out[SMR_MESSAGE];
@@ -48,6 +51,7 @@ static void make_menu(size_t n, size_t tail)
     *m++ = (uint8_t)inner;
     memcpy(m, text, inner);
     length = (size_t)(m - message) + inner;
+    if (n == 1) message[16] = 0x0F; /* W1 */
 }
 
 static void receive(int i)
@@ -113,20 +117,19 @@ static void measure_menu(const char *name, size_t n, size_t tail, void (*other)(
 {
     char line[32];
     make_menu(n, tail);
-    if (n == 1) message[16] = 0x0F; /* W1 */
     snprintf(line, sizeof line, "%s, %zu", name, length);
     measure(line, receive, other, cleared);
 }
 
 int main(int argc, char **argv)
 {
-    if (argc > 2) { /* for counting instructions: so many calls of one kind */
+    if (argc > 3) { /* for counting instructions: so many calls of one kind, CALLS at most */
         void (*call)(int) = strcmp(argv[2], "begin") == 0 ? begin : receive;
-        make_menu((size_t)atoi(argv[2]), argc > 3 ? (size_t)atoi(argv[3]) : 0);
-        for (int i = 0; i < atoi(argv[1]); i++) {
-            memset(tables[0], 0, SMR_TABLE);
-            call(0);
-        }
+#ifdef OSMO
+        if (strcmp(argv[2], "decode") == 0) call = decode;
+#endif
+        make_menu((size_t)atoi(argv[3]), argc > 4 ? (size_t)atoi(argv[4]) : 0);
+        for (int i = 0, n = atoi(argv[1]); i < n; i++) call(i);
         return 0;
     }
     measure_menu("W1", 1, 0, OTHERS);

@@ -12,6 +12,7 @@ use lib.Dec.{leb, eqb}
 use mir.Syntax.{w8}
 use mir.Val.{SFits}
 use Rattle.octets.specs.Reader.{Answer, fault, sound, Taken, took}
+use Rattle.octets.proofs.TestLaws.{both}
 use Rattle.elements.specs.Element.{refusedTag, Element, element, shortest, written}
 use Rattle.elements.proofs.ElementLaws.{written-reads-back}
 use Rattle.codes.specs.Ids.{idOf, octetOf}
@@ -71,14 +72,9 @@ pub inside-is : (tag : ℕ) (s : List ℕ) (c : Component) → component tag s �
 unfolding inside
 inside-is tag s c e = rw e
 
-and-true : (a b : Bool) → a && b ≡ true → (a ≡ true) × (b ≡ true)
-and-true true true e = (refl, refl)
-and-true true false e = let z : _≡_ {A = ℕ} 0 1 = cc in absurd (omega arith)
-and-true false b e = let z : _≡_ {A = ℕ} 0 1 = cc in absurd (omega arith)
-
 problem-tag : (tag : ℕ) → problemTag tag ≡ true → refusedTag tag ≡ false
 problem-tag tag h =
-    let w = and-true (leb 0x80 tag) (leb tag 0x83) h in
+    let w = both (leb 0x80 tag) (leb tag 0x83) h in
     let l = leb-true 0x80 tag (w .0) in
     let u = leb-true tag 0x83 (w .1) in
     rw (ne-eqb tag 0 (λ z. omega arith), ne-eqb (tag % 32) 31 (λ z. omega arith))

@@ -31,10 +31,6 @@ pub or-none : (b : Bool) → b ≡ b || false
 or-none true = refl
 or-none false = refl
 
-pub both-ours : (a b : Bool) → a && b ≡ true → a ≡ true
-both-ours true b e = refl
-both-ours false b e = e
-
 -- a result that tells our operation is told with the text that was read for ours
 pub told-is : (id : ℤ) (o : Option ℕ) (ours : ℕ) (p : List ℕ) (t : Ussd) → isOurs o ours ≡ true → TextSeen (eqb ours 59) p t
     → TextTold (result id o p) (toldText o t)

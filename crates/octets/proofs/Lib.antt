@@ -2,3 +2,4 @@ pub mod OctetsLaws
 pub mod PartLaws
 pub mod SpliceLaws
 pub mod ReaderLaws
+pub mod TestLaws

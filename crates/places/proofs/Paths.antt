@@ -14,6 +14,7 @@ use borrow.Author.Tests.{leb-true, eqb-true, eq-eqb, ne-eqb}
 use Rattle.octets.specs.Part.{between}
 use Rattle.octets.specs.Reader.{fault, sound, took, isEmpty}
 use Rattle.octets.proofs.PartLaws.{length-between, getD-between}
+use Rattle.octets.proofs.TestLaws.{both}
 use Rattle.elements.specs.Element.{refusedTag, Element, element}
 use Rattle.elements.proofs.Paths.{short, whole}
 use Rattle.codes.specs.Ids.{idOf}
@@ -89,18 +90,12 @@ module _ (s : List ℕ) (t a e : ℕ) (h : a ≤ e) (l : e ≤ length s) (q : to
     called-linked i j o k z =
         rw (j, ← q, eq-eqb t 0x80 f, length-between a e s l, eq-eqb (e - a) 1 g, getD-between a e s 0 (omega arith), add-zero, ← z, drop-drop k e s)
 
--- both of two tests
-pub and-true : (a b : Bool) → a && b ≡ true → (a ≡ true) × (b ≡ true)
-and-true true true e = (refl, refl)
-and-true true false e = let z : _≡_ {A = ℕ} 0 1 = cc in absurd (omega arith)
-and-true false b e = let z : _≡_ {A = ℕ} 0 1 = cc in absurd (omega arith)
-
 -- the usual form: its element has the tag 02 and one octet
 module _ (s : List ℕ) (u : usual s ≡ true) where
   usual-tests : ((leb 3 (length s) ≡ true) × (eqb (getD s 0 0) 0x02 ≡ true)) × (eqb (getD s 1 0) 0x01 ≡ true)
   usual-tests =
-      let w = and-true (leb 3 (length s) && eqb (getD s 0 0) 0x02) (eqb (getD s 1 0) 0x01) u in
-      (and-true (leb 3 (length s)) (eqb (getD s 0 0) 0x02) (w .0), w .1)
+      let w = both (leb 3 (length s) && eqb (getD s 0 0) 0x02) (eqb (getD s 1 0) 0x01) u in
+      (both (leb 3 (length s)) (eqb (getD s 0 0) 0x02) (w .0), w .1)
 
   pub usual-long : 3 ≤ length s
   usual-long = leb-true 3 (length s) (usual-tests .0 .0)

@@ -1,6 +1,6 @@
 -- What the code's proofs cite: the tests of an entry and of the image, the named entry, the scan for a closed value.
 use mathlib.Core.Path.{_≡_, refl, ap}
-use mathlib.Core.Bool.{Bool, true, false, cond, _&&_, false≢true}
+use mathlib.Core.Bool.{Bool, true, false, cond, _&&_}
 use mathlib.Core.List.{List}
 use mathlib.Core.Option.{none, some}
 use Prim.Native.Nat.{ℕ, zero, suc, _+_, _*_, _-_, _<_, _≤_}
@@ -10,6 +10,7 @@ use native.Mathlib.Omega.{arith}
 use borrow.Author.Tests.{eqb-true, eqb-false, eq-eqb, ne-eqb, le-leb, lt-leb}
 use lib.Dec.{eqb}
 use lib.ListN.{length, getD}
+use Rattle.octets.proofs.TestLaws.{both}
 use Rattle.codes.specs.Operations.{begins, waits}
 use Rattle.table.specs.Table.{size, named, hasOwn, hasPeer, Image, imageAt, soundIn, soundState, soundImage, entryOf, entryAt, soundEntries, zeros, isNew, valid, lowestFrom}
 
@@ -47,10 +48,6 @@ unfolding valid
 all-seen t k e l g = rw (eq-eqb (length t) 70 e) (ap (soundEntries t) (le-antisymm l g))
 
 -- an image of zeros: every octet is 0, so every entry is sound
-both : {A : Type 0} (a b : Bool) → (a && b) ≡ true → (a ≡ true → b ≡ true → A) → A
-both true b e k = k refl e
-both false b e k = absurd (false≢true e)
-
 at-or-below : (t : List ℕ) (n k : ℕ) (b : Bool) → eqb k n ≡ b → k < suc n → eqb (getD t n 0) 0 ≡ true → (k < n → getD t k 0 ≡ 0) → getD t k 0 ≡ 0
 at-or-below t n k true s h q below = rw (eqb-true k n s) (eqb-true (getD t n 0) 0 q)
 at-or-below t n k false s h q below = let d = eqb-false k n s in below (omega (arith, d))
@@ -58,7 +55,9 @@ at-or-below t n k false s h q below = let d = eqb-false k n s in below (omega (a
 zero-at : (t : List ℕ) (n k : ℕ) → zeros t n ≡ true → k < n → getD t k 0 ≡ 0
 unfolding zeros
 zero-at t zero k e h = absurd (omega arith)
-zero-at t (suc n) k e h = both (zeros t n) (eqb (getD t n 0) 0) e λ p q. at-or-below t n k (eqb k n) refl h q (λ l. zero-at t n k p l)
+zero-at t (suc n) k e h =
+    let w = both (zeros t n) (eqb (getD t n 0) 0) e in
+    at-or-below t n k (eqb k n) refl h (w .1) (λ l. zero-at t n k (w .0) l)
 
 zero-image : (t : List ℕ) (k : ℕ) → zeros t 70 ≡ true → k < 14 → soundImage (imageAt t k) ≡ true
 unfolding soundImage
@@ -76,7 +75,13 @@ unfolding valid
 fresh-is t l e = rw (eq-eqb (length t) 70 l, zero-entries t 14 (rw l at e) (omega arith))
 
 pub new-is : (t : List ℕ) → isNew t ≡ true → true ≡ valid t
-new-is t e = both (eqb (length t) 70) _ e λ l z. fresh-is t (eqb-true (length t) 70 l) z
+new-is t e = let w = both (eqb (length t) 70) _ e in fresh-is t (eqb-true (length t) 70 (w .0)) (w .1)
+
+pub new-zero : (t : List ℕ) (k : ℕ) → isNew t ≡ true → k < 70 → getD t k 0 ≡ 0
+new-zero t k e h =
+    let w = both (eqb (length t) 70) (zeros t (length t)) e in
+    let l = eqb-true (length t) 70 (w .0) in
+    zero-at t (length t) k (w .1) (omega arith)
 
 -- two entries more
 pub two-more : (t : List ℕ) (n : ℕ) → soundEntries t (2 * (n + 1)) ≡ (soundEntries t (2 * n) && soundImage (imageAt t (2 * n))) && soundImage (imageAt t (2 * n + 1))

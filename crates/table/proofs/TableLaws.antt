@@ -13,18 +13,14 @@ use lib.ListN.{length, getD, replicate, getD-replicate}
 use lib.Seq.{ext-getD}
 use mir.Syntax.{w8}
 use mir.Facts.{sfits-toZ}
+use Rattle.octets.proofs.TestLaws.{both}
 use Rattle.octets.specs.Octets.{Octets}
 use Rattle.octets.specs.Splice.{splice}
 use Rattle.octets.proofs.SpliceLaws.{length-splice, getD-within, getD-before, getD-behind}
 use Rattle.codes.specs.Operations.{begins, waits}
 use Rattle.codes.proofs.IdLaws.{IsId, octet-back, id-back}
 use Rattle.table.specs.Table.{Waiting, Entry, closed, size, hasOwn, hasPeer, Image, imageAt, waitingIn, entryOf, soundIn, soundState, soundImage, entryAt, soundEntries, isNew, valid, idIn, operationIn, null, one, stateOf, octets, withEntry, lowestFrom, lowestClosed, holdsOne, holds}
-use Rattle.table.proofs.Steps.{new-is}
-
--- conjunctions
-both : (a b : Bool) → (a && b) ≡ true → (a ≡ true) × (b ≡ true)
-both true b e = (refl, e)
-both false b e = absurd (false≢true e)
+use Rattle.table.proofs.Steps.{new-is, new-zero}
 
 three : (a b c : Bool) → (a && b && c) ≡ true → (a ≡ true) × (b ≡ true) × (c ≡ true)
 three true true c e = (refl, refl, e)
@@ -307,8 +303,13 @@ same-again t k h l o =
     ∙ ext-getD 0 (splice t (size * k) (imageOctets (imageAt t k))) t (length-splice t (size * k) (imageOctets (imageAt t k)) f)
     (λ i m. same-octet t k f i (ltb i (size * k)) (ltb i (size * k + size)) refl refl)
 
+-- an image as it is at the start
 pub new-valid : (t : List ℕ) → isNew t ≡ true → valid t ≡ true
 new-valid t e = sym (new-is t e)
+
+pub new-closed : (t : List ℕ) (k : ℕ) → isNew t ≡ true → k < 14 → entryAt t k ≡ closed
+unfolding entryAt entryOf
+new-closed t k e h = rw (new-zero t (size * k) e (omega arith))
 
 pub valid-zero : valid (replicate 70 0) ≡ true
 unfolding valid soundEntries soundImage

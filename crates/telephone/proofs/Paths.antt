@@ -25,12 +25,13 @@ use Rattle.calling.specs.Calls.{Sending, orRefused, fitting, begin}
 use Rattle.calling.proofs.Lengths.{register-octets, facility-invoke, facility-error, facility-answer}
 use Rattle.showing.specs.Views.{componentView, textView, causeView}
 use Rattle.deciding.specs.Decision.{Decision}
-use Rattle.deciding.specs.Steps.{firstOf, entryOf}
+use Rattle.deciding.specs.Steps.{firstOf, entryOf, decide}
 use Rattle.deciding.specs.Seen.{toldSeen, actSeen, ActWithin, decisionSeen, DecisionWithin, actsNot, isSilent, Ready}
 use Rattle.deciding.specs.declared.Told.{Told}
 use Rattle.deciding.specs.declared.Act.{Act}
 use Rattle.deciding.specs.declared.Decision.{Decision as Made}
-use Rattle.telephone.specs.Receive.{verdictOf, sentBy, tableBy, causeBy, act}
+use Rattle.menus.specs.Menu.{becomes, shows, found}
+use Rattle.telephone.specs.Receive.{verdictOf, sentBy, tableBy, causeBy, act, receive}
 use Rattle.telephone.specs.Calls.{called}
 use Rattle.telephone.specs.FromC.{shownAs, receivedOf, withoutCause, ActedAs, calledOf}
 use Rattle.telephone.specs.declared.receive.Acted.{Acted}
@@ -49,6 +50,12 @@ entry-fits t m room h = let k = place-most (eqb (flag (firstOf m)) 1) (value (fi
 pub splice-none : (b : List ℕ) → b ≡ splice b 0 []
 unfolding splice
 splice-none b = refl
+
+-- the usual menu is taken
+pub menu-taken : (t m b : List ℕ) (r : Received) (t′ : List ℕ) → decide t m (length b) ≡ found m → r ≡ shownAs (length m) 0 0 (shows m) none → t′ ≡ withEntry t (entryOf m) (becomes m)
+    → (r ≡ receivedOf (length m) (receive t m b)) × ((b ≡ receive t m b .buffer) × (t′ ≡ receive t m b .table))
+unfolding receive act
+menu-taken t m b r t′ d e f = rw d (e, (splice-none b, f))
 
 -- what is done is told by the case alone
 module _ (t m b : List ℕ) (d : Made) (a : Act) (e : d .act ≡ a) where

@@ -9,13 +9,16 @@ use showing::TextView;
 use table::Invoke;
 use table::Slot;
 ghost use mathlib.Core.Path.{_≡_};
-ghost use mathlib.Core.Bool.{false};
+ghost use mathlib.Core.Bool.{true, false};
+ghost use mathlib.Core.Option.{none};
 ghost use Prim.Native.Nat.{_+_, _*_, _≤_};
 ghost use lib.ListN.{length, drop};
 ghost use Rattle.octets.specs.Part.{between};
 ghost use Rattle.messages.specs.Seen.{partSeen, PartWithin};
 ghost use Rattle.table.specs.Table.{size, closed, withEntry};
 ghost use Rattle.deciding.specs.Seen.{toldSeen, ToldWithin, decisionSeen, DecisionWithin, isSilent, Ready};
+ghost use Rattle.deciding.specs.Steps.{entryOf};
+ghost use Rattle.menus.specs.Menu.{usual, becomes, shows};
 ghost use Rattle.telephone.specs.Receive.{act, receive};
 ghost use Rattle.telephone.specs.FromC.{shownAs, receivedOf, withoutCause, ActedAs};
 
@@ -131,6 +134,24 @@ fn act(table: &mut [u8], message: &[u8], reply: &mut [u8], decision: Decision) -
     }
 }
 
+// The usual menu is taken: every place of it is known.
+fn take_menu(table: &mut [u8], message: &[u8]) -> Received
+    requires { ⌜ (usual (now message) ≡ true) × (size * entryOf (now message) + size ≤ length (now table)) ⌝ }
+    ensures returned { λ r. ⌜ r ≡ shownAs (length (now (message .entry))) 0 0 (shows (now (message .entry))) none ⌝ }
+    ensures table { λ _. ⌜ now (table .exit) ≡ withEntry (now (table .entry)) (entryOf (now (message .entry))) (becomes (now (message .entry))) ⌝ }
+{
+    let entry = deciding::entry_of(message);
+    let slot = menus::shown::slot_of(message);
+    table::write_entry(table, entry, slot);
+    Received {
+        code: 0,
+        written: 0,
+        shown: menus::shown::component_of(message),
+        text: menus::shown::text_of(message),
+        cause: showing::cause_view(message, Part::Nothing),
+    }
+}
+
 // A message of any length and content, in any state of the table, gets its one verdict.
 #[no_mangle]
 pub extern "C" fn smr_receive(table: &mut [u8], message: &[u8], reply: &mut [u8]) -> Received
@@ -138,6 +159,9 @@ pub extern "C" fn smr_receive(table: &mut [u8], message: &[u8], reply: &mut [u8]
     ensures reply { λ _. ⌜ now (reply .exit) ≡ receive (now (table .entry)) (now (message .entry)) (now (reply .entry)) .buffer ⌝ }
     ensures table { λ _. ⌜ now (table .exit) ≡ receive (now (table .entry)) (now (message .entry)) (now (reply .entry)) .table ⌝ }
 {
+    if menus::usual::is_menu(table, message, reply.len()) {
+        return take_menu(table, message);
+    }
     let decision = deciding::decide(table, message, reply.len());
     let acted = act(table, message, reply, decision);
     let told = decision.told;

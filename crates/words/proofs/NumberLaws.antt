@@ -11,13 +11,10 @@ use lib.Dec.{leb}
 use borrow.Author.Tests.{leb-true, eq-eqb, ne-eqb, le-leb, lt-leb}
 use Rattle.octets.specs.Part.{between}
 use Rattle.octets.proofs.PartLaws.{rest-part}
+use Rattle.octets.proofs.TestLaws.{both}
 use Rattle.words.specs.Numbers.{digit, numberFrom, number, signed, negative, AtMost}
 use Rattle.words.specs.declared.Number.{Number}
 use Rattle.words.specs.declared.Number.the-variants.{Nothing, Is}
-
-both : (a b : Bool) → a && b ≡ true → (a ≡ true) × (b ≡ true)
-both true b e = (refl, e)
-both false b e = let z : _≡_ {A = ℕ} 0 1 = cc in absurd (omega arith)
 
 -- between two values, ends included
 pub in-range : (low high c : ℕ) → leb low c && leb c high ≡ true → (low ≤ c) × (c ≤ high)

@@ -6,7 +6,8 @@ use Rattle.parameters.specs.Suits.{suits, ResultReceived}
 use borrow.Author.Tests.{not-true, not-false}
 use Rattle.table.specs.Seen.{invokeSeen}
 use Rattle.judging.specs.StepSix.{isOurs, judgeResult}
-use Rattle.judging.proofs.Paths.{among-is, operation-is, cleared, told-is, both-ours}
+use Rattle.octets.proofs.TestLaws.{both}
+use Rattle.judging.proofs.Paths.{among-is, operation-is, cleared, told-is}
 use Rattle.judging.proofs.judge_result.Statement.{statement}
 use Rattle.judging.proofs.judge_result.Tie as tie
 use Rattle.judging.proofs.judge_result.Reads as reads
@@ -55,7 +56,7 @@ returns-3 c =
     let w = a .slot .own in
     let m = sym (among-is (invokeSeen w) i (c .before .before .before .before .before .before .before .is-among .ensures)) ∙ not-false _ (c .before .before .before .before .before .before .if1 .left) in
     let b : isOurs (operationSeen (a .operation)) (o .result) && suits ResultReceived (o .result) (a .p .now) ≡ true = rw (c .before .before .before .is-ours .ensures, c .before .before .before .before .suits-result-received .ensures .0) at (not-false (c .before .before .before .is-ours .result && c .before .before .before .before .suits-result-received .result .suited) (c .before .if2 .left)) in
-    (rw (m, ← operation-is (invokeSeen w) i (o .ensures), b, cleared (a .id) w m), rw (c .told-text .ensures) (told-is (a .id) (operationSeen (a .operation)) (o .result) (a .p .now) (c .before .before .before .before .suits-result-received .result .text) (both-ours _ _ b) (c .before .before .before .before .suits-result-received .ensures .1)))
+    (rw (m, ← operation-is (invokeSeen w) i (o .ensures), b, cleared (a .id) w m), rw (c .told-text .ensures) (told-is (a .id) (operationSeen (a .operation)) (o .result) (a .p .now) (c .before .before .before .before .suits-result-received .result .text) (both _ _ b .0) (c .before .before .before .before .suits-result-received .ensures .1)))
 
 pub judge-result-spec : {M : Type 1} → statement M
 judge-result-spec =

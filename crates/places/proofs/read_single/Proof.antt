@@ -4,7 +4,8 @@ use mathlib.Core.Path.{sym, _∙_}
 use lib.Dec.{eqb}
 use borrow.Author.Tests.{eqb-true}
 use Rattle.places.proofs.Left.{problem-is}
-use Rattle.places.proofs.Paths.{and-true, usual-long, usual-single, single-fault, single-tag, single-length, single-is}
+use Rattle.octets.proofs.TestLaws.{both}
+use Rattle.places.proofs.Paths.{usual-long, usual-single, single-fault, single-tag, single-length, single-is}
 use Rattle.places.proofs.read_single.Statement.{statement}
 use Rattle.places.proofs.read_single.Tie as tie
 use Rattle.places.proofs.read_single.Reads as reads
@@ -20,7 +21,7 @@ shared-slice-read-t11 : tie.Need-shared-slice-read-t11
 shared-slice-read-t11 c =
     let s = c .before .before .before .before .args .s .now in
     let tag = c .before .before .before .before .args .tag in
-    let w = and-true (eqb tag 0x02) (c .before .before .is-usual .result) (c .before .if1 .taken) in
+    let w = both (eqb tag 0x02) (c .before .before .is-usual .result) (c .before .if1 .taken) in
     let l = usual-long s (sym (c .before .before .is-usual .ensures) ∙ w .1) in
     omega arith
 
@@ -28,7 +29,7 @@ returns : tie.Need-returns
 returns c =
     let s = c .before .before .before .before .args .s .now in
     let tag = c .before .before .before .before .args .tag in
-    let w = and-true (eqb tag 0x02) (c .before .before .is-usual .result) (c .before .if1 .taken) in
+    let w = both (eqb tag 0x02) (c .before .before .is-usual .result) (c .before .if1 .taken) in
     let u = sym (c .before .before .is-usual .ensures) ∙ w .1 in
     (usual-single s u tag (eqb-true tag 0x02 (w .0)), usual-long s u)
 

@@ -1,0 +1,2 @@
+pub mod MenuLaws
+pub mod Worked
