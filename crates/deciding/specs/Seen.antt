@@ -61,10 +61,16 @@ abbrev pub onWeighed : Bool → List ℕ → spec.Decision → spec.Decision
 onWeighed false s d = d
 onWeighed true s d = released (exceptInvoke (shownBy d)) (firstTaken 0x08 s)
 
+-- an end that shows nothing
+abbrev pub EndsAs : List ℕ → Act → spec.Decision → Type 0
+EndsAs s act d = (actSeen s act none ≡ d) × ActWithin s act Told.Nothing
+
 -- what is left to do leads to this decision
 abbrev pub CourseSeen : Entry → List ℕ → Course → spec.Decision → Type 0
-CourseSeen e s (Course.Ends act) d = (actSeen s act none ≡ d) × ActWithin s act Told.Nothing
-CourseSeen e s (Course.Weighs start end release) d =
+CourseSeen e s Course.Ignored d = EndsAs s (Act.Silent 1) d
+CourseSeen e s (Course.WithCause number) d = EndsAs s (Act.WithCause number) d
+CourseSeen e s (Course.Released cause) d = EndsAs s (Act.Released cause) d
+CourseSeen e s (Course.Weighs release start end) d =
     ((start ≤ end) × (end ≤ length s)) × (onWeighed release s (stepFive e (facility (between start end s)) (drop end s)) ≡ d)
 
 abbrev pub showsNothing : Act → Decision

@@ -231,13 +231,15 @@ fn release(s: &[u8], told: Told) -> Decision
     }
 }
 
-// What steps 2 to 4 leave to do: nothing more, or a Facility value to weigh, which in a RELEASE COMPLETE is only shown.
+// What steps 2 to 4 leave to do: to end so, or to weigh a Facility value, which in a RELEASE COMPLETE is only shown.
 pub enum Course {
-    Ends(Act),
+    Ignored,
+    WithCause(u8),
+    Released(Part),
     Weighs {
+        release: bool,
         start: usize,
         end: usize,
-        release: bool,
     },
 }
 
@@ -246,12 +248,12 @@ fn course_required(s: &[u8], kind: u8) -> Course
     ensures { λ r. ⌜ ((e : Entry) → CourseSeen e (now (s .entry)) r (stepFour e kind (now (s .entry)))) ⌝ }
 {
     let Body::Facility { start, end } = messages::scan::read_required(s, kind) else {
-        return Course::Ends(Act::WithCause(96));
+        return Course::WithCause(96);
     };
     Course::Weighs {
+        release: false,
         start: start,
         end: end,
-        release: false,
     }
 }
 
@@ -260,12 +262,12 @@ fn course_released(s: &[u8]) -> Course
     ensures { λ r. ⌜ ((e : Entry) → CourseSeen e (now (s .entry)) r (onRelease e (now (s .entry)))) ⌝ }
 {
     let Part::Between { start, end } = messages::scan::find(s, 0x1C) else {
-        return Course::Ends(Act::Released(messages::scan::find(s, 0x08)));
+        return Course::Released(messages::scan::find(s, 0x08));
     };
     Course::Weighs {
+        release: true, // only to be shown
         start: start,
         end: end,
-        release: true, // only to be shown
     }
 }
 
@@ -276,27 +278,27 @@ fn course_of(slot: Slot, flag: u8, kind: u8, s: &[u8]) -> Course
     match messages::layout::type_of(kind) {
         MessageType::ReleaseComplete => {
             if !slot.open {
-                return Course::Ends(Act::Silent(1));
+                return Course::Ignored;
             }
             return course_released(s);
         }
         MessageType::Facility => {
             if !slot.open {
-                return Course::Ends(Act::WithCause(81));
+                return Course::WithCause(81);
             }
             return course_required(s, 0x3A);
         }
         MessageType::Register => {
             if slot.open {
-                return Course::Ends(Act::WithCause(98));
+                return Course::WithCause(98);
             }
             if flag == 1 {
-                return Course::Ends(Act::Silent(1));
+                return Course::Ignored;
             }
             return course_required(s, 0x3B);
         }
         MessageType::Unknown => {
-            return Course::Ends(Act::WithCause(97));
+            return Course::WithCause(97);
         }
     }
 }
@@ -307,13 +309,19 @@ fn decide_by_type(slot: Slot, flag: u8, kind: u8, s: &[u8]) -> Decision
     ensures within { λ r. ⌜ DecisionWithin (now (s .entry)) r ⌝ }
 {
     match course_of(slot, flag, kind, s) {
-        Course::Ends(act) => {
-            return untold(act);
+        Course::Ignored => {
+            return untold(Act::Silent(1));
+        }
+        Course::WithCause(number) => {
+            return untold(Act::WithCause(number));
+        }
+        Course::Released(cause) => {
+            return untold(Act::Released(cause));
         }
         Course::Weighs {
+            release: only_shown,
             start,
             end,
-            release: only_shown,
         } => {
             let decision = weigh(slot, s, start, end);
             if !only_shown {
