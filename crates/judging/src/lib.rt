@@ -255,7 +255,7 @@ pub fn judge_error(slot: Slot, id: i8, code: u8) -> Verdict
     }
     Verdict::Accepted {
         slot: Slot {
-            open: slot.open,
+            open: slot.open, // as it was
             own: Invoke::Absent,
             peer: peer,
         },

@@ -19,7 +19,7 @@ fn conversations() {
     let mut occurrences = Occurrences::default();
     // an emulator is some ten times slower
     let emulated = std::env::var_os("SMR_EMULATED").is_some();
-    let share = if emulated { 2 } else { 1 };
+    let share = if emulated { 3 } else { 1 };
     for seed in 1..=CONVERSATIONS / share {
         occurrences.add(&compare(&conversation(seed)));
     }
