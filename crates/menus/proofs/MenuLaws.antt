@@ -2,15 +2,15 @@
 use Prim.Native.Nat.{ℕ, zero, suc, _+_, _*_, _-_, _%_, _≤_, _<_}
 use mathlib.Core.Path.{_≡_, refl, sym, ap, _∙_}
 use mathlib.Core.List.{List, [], _∷_, _++_}
-use mathlib.Core.Bool.{Bool, true, false, _&&_, _||_}
-use mathlib.Core.Option.{none, some}
+use mathlib.Core.Bool.{true, false, _&&_, _||_}
+use mathlib.Core.Option.{none}
 use native.Mathlib.Omega.{arith}
 use lib.ListN.{length, getD, take, drop, length-drop}
 use lib.Seq.{drop-cons, take-length, drop-length}
 use lib.IntN.{ℤ, pos}
 use lib.Dec.{ltb, leb, eqb}
 use borrow.Author.Tests.{ltb-true, leb-true, eqb-true, le-ltb, le-leb, eq-eqb, ne-eqb}
-use Rattle.octets.specs.Reader.{Answer, sound, Taken, took, front}
+use Rattle.octets.specs.Reader.{sound, Taken, took}
 use Rattle.octets.proofs.TestLaws.{both, one-of}
 use Rattle.elements.specs.Element.{refusedTag, Element, element, row, rowOf}
 use Rattle.elements.proofs.ElementLaws.{one-octet}
@@ -19,10 +19,10 @@ use Rattle.parameters.specs.Parameter.{string, Text, text, ussdContents, ussd}
 use Rattle.parameters.specs.Suits.{suits, suitsInvokeReceived}
 use Rattle.places.specs.Places.{parameter, Called, called}
 use Rattle.components.specs.Component.{invoke, invokeTag, invokeOf}
-use Rattle.components.specs.Facility.{shows as showsComponent, afterTag, component as componentIn, facility}
+use Rattle.components.specs.Facility.{shows, afterTag, component, facility}
 use Rattle.components.specs.Texts.{textOf}
 use Rattle.components.proofs.ReadBack.{alone-back, place-back, single-back, facility-is, inside-is}
-use Rattle.messages.specs.Layout.{discriminator, value, flag, mandatoryMissing, sized, mandatory, registerType}
+use Rattle.messages.specs.Layout.{discriminator, value, flag, sized, mandatory, registerType}
 use Rattle.messages.specs.Scan.{clear, clearOf, required}
 use Rattle.table.specs.Table.{Entry, closed, size, isNew}
 use Rattle.table.proofs.TableLaws.{new-valid, new-closed}
@@ -30,7 +30,7 @@ use Rattle.showing.specs.Views.{spanOf, componentView, textView}
 use Rattle.judging.specs.StepSix.{among, full, linkedProblem, judgeInvoke, accepted}
 use Rattle.deciding.specs.Decision.{Decision, taken}
 use Rattle.deciding.specs.Steps.{shown, stepSix, stepFive, stepFour, stepTwo, firstOf, entryOf, decide}
-use Rattle.menus.specs.Menu.{menu, hasHead, hasInvoke, hasText, usual, isMenu, component, becomes, shows, found}
+use Rattle.menus.specs.Menu.{menu, hasHead, hasInvoke, hasText, usualMenu, isMenu, menuEntry, menuShown, menuDecision}
 
 -- n octets from a place on
 octetsFrom : ℕ → ℕ → List ℕ → List ℕ
@@ -47,9 +47,9 @@ goes-on-with (suc n) k m h =
     drop-cons m k 0 l ∙ ap (λ (r : List ℕ). getD m k 0 ∷ r) (goes-on-with n (suc k) m g ∙ ap (λ (j : ℕ). octetsFrom (suc k) n m ++ drop j m) e)
 
 -- what the tests tell
-module _ (m : List ℕ) (u : usual m ≡ true) where
+module _ (m : List ℕ) (u : usualMenu m ≡ true) where
   tests : ((20 ≤ length m) × (length m ≤ 133)) × (((hasHead m ≡ true) × (hasInvoke m ≡ true)) × (hasText m ≡ true))
-  unfolding usual
+  unfolding usualMenu
   tests =
       let w = both (leb 20 (length m) && leb (length m) 133) (hasHead m && hasInvoke m && hasText m) u in
       let l = both (leb 20 (length m)) (leb (length m) 133) (w .0) in
@@ -141,25 +141,25 @@ module _ (scheme : ℕ) (s : List ℕ) (l : 1 ≤ length s) (h : length s ≤ 11
 
   -- the Invoke: A1 n 02 01 id 02 01 operation, and the text
   module _ (id operation : ℕ) where
-    abbrev inside : List ℕ
-    inside = 0x02 ∷ 0x01 ∷ id ∷ 0x02 ∷ 0x01 ∷ operation ∷ octetsOfText
+    abbrev invokeOctets : List ℕ
+    invokeOctets = 0x02 ∷ 0x01 ∷ id ∷ 0x02 ∷ 0x01 ∷ operation ∷ octetsOfText
 
     called-read : called (0x02 ∷ 0x01 ∷ operation ∷ octetsOfText) ≡ took (record { linked = none; operation = operation }) octetsOfText
     unfolding called
     called-read = rw (place-back 0x02 operation octetsOfText refl)
 
-    component-read : componentIn invokeTag inside ≡ sound (invoke (idOf id) none operation octetsOfText)
-    unfolding componentIn afterTag invokeOf
+    component-read : component invokeTag invokeOctets ≡ sound (invoke (idOf id) none operation octetsOfText)
+    unfolding component afterTag invokeOf
     component-read = rw (single-back id (0x02 ∷ 0x01 ∷ operation ∷ octetsOfText), called-read, is-parameter)
 
-    facility-read : facility (0xA1 ∷ (13 + length s) ∷ inside) ≡ showsComponent (invoke (idOf id) none operation octetsOfText)
+    facility-read : facility (0xA1 ∷ (13 + length s) ∷ invokeOctets) ≡ shows (invoke (idOf id) none operation octetsOfText)
     facility-read =
-        facility-is invokeTag ((13 + length s) ∷ inside) inside refl (short-back invokeTag (13 + length s) inside refl (omega arith) (omega arith))
-        ∙ inside-is invokeTag inside (invoke (idOf id) none operation octetsOfText) component-read
+        facility-is invokeTag ((13 + length s) ∷ invokeOctets) invokeOctets refl (short-back invokeTag (13 + length s) invokeOctets refl (omega arith) (omega arith))
+        ∙ inside-is invokeTag invokeOctets (invoke (idOf id) none operation octetsOfText) component-read
 
     -- the Facility value, and nothing behind it
     abbrev body : List ℕ
-    body = 0xA1 ∷ (13 + length s) ∷ inside
+    body = 0xA1 ∷ (13 + length s) ∷ invokeOctets
 
     required-read : required registerType (0x1C ∷ (15 + length s) ∷ body) ≡ took body []
     unfolding required mandatory sized clear clearOf
@@ -169,10 +169,10 @@ module _ (scheme : ℕ) (s : List ℕ) (l : 1 ≤ length s) (h : length s ≤ 11
         rw (e, le-leb (length body) (length body) k, take-length body, drop-length body)
 
     -- step 6, of a closed entry
-    abbrev kept : Entry
-    kept = record { isOpen = true; own = []; peer = record { id = idOf id; operation = operation } ∷ [] }
+    abbrev menuWaits : Entry
+    menuWaits = record { isOpen = true; own = []; peer = record { id = idOf id; operation = operation } ∷ [] }
 
-    judged : eqb operation 60 || eqb operation 61 ≡ true → judgeInvoke closed (idOf id) none operation octetsOfText ≡ accepted kept
+    judged : eqb operation 60 || eqb operation 61 ≡ true → judgeInvoke closed (idOf id) none operation octetsOfText ≡ accepted menuWaits
     unfolding judgeInvoke among full linkedProblem suits suitsInvokeReceived
     judged o =
         one-of (eqb operation 60) (eqb operation 61) o
@@ -180,12 +180,12 @@ module _ (scheme : ℕ) (s : List ℕ) (l : 1 ≤ length s) (h : length s ≤ 11
         (λ e. rw (eqb-true operation 61 e, text-read))
 
     -- steps 2 to 6, behind the type
-    from-type : eqb operation 60 || eqb operation 61 ≡ true → stepTwo closed 0 registerType (0x1C ∷ (15 + length s) ∷ body) ≡ taken kept (shown (invoke (idOf id) none operation octetsOfText) [])
+    from-type : eqb operation 60 || eqb operation 61 ≡ true → stepTwo closed 0 registerType (0x1C ∷ (15 + length s) ∷ body) ≡ taken menuWaits (shown (invoke (idOf id) none operation octetsOfText) [])
     unfolding stepTwo stepFour stepFive stepSix
     from-type o = rw (required-read, facility-read, judged o)
 
 -- the places of the usual menu, in the message itself
-module _ (m : List ℕ) (u : usual m ≡ true) where
+module _ (m : List ℕ) (u : usualMenu m ≡ true) where
   abbrev rest : List ℕ
   rest = drop 19 m
 
@@ -227,12 +227,12 @@ module _ (m : List ℕ) (u : usual m ≡ true) where
         tag = 0;
         problem = 0;
         parameter = record { start = 12; end = length m };
-      } ≡ componentView (length m) (shows m)
+      } ≡ componentView (length m) (menuShown m)
   unfolding componentView
   component-view e = rw (e, span-from 12 (omega (arith, usual-long m u)))
 
   pub text-view : record { «is_there» = true; scheme = getD m 16 0; string = record { start = 19; end = length m }; tail = record { start = length m; end = length m } }
-      ≡ textView (length m) (shows m)
+      ≡ textView (length m) (menuShown m)
   unfolding textView textOf
   text-view =
       let a : length m ≡ length m - 0 - 0 = omega arith in
@@ -245,11 +245,11 @@ module _ (m : List ℕ) (u : usual m ≡ true) where
   below = omega (arith, head m u .1 .0)
 
   -- steps 2 to 6
-  steps : stepTwo closed (flag (getD m 0 0)) (getD m 1 0) (drop 2 m) ≡ found m
+  steps : stepTwo closed (flag (getD m 0 0)) (getD m 1 0) (drop 2 m) ≡ menuDecision m
   steps =
       rw (below, head m u .1 .1 .0, behind-type)
       (from-type (getD m 16 0) rest least most (getD m 8 0) (getD m 11 0) menu-operation
-      ∙ ap (λ (p : List ℕ). taken (becomes m) (shown (invoke (idOf (getD m 8 0)) none (getD m 11 0) p) [])) (sym parameter-is))
+      ∙ ap (λ (p : List ℕ). taken (menuEntry m) (shown (invoke (idOf (getD m 8 0)) none (getD m 11 0) p) [])) (sym parameter-is))
 
   -- the entry that it picks
   pub entry-is : entryOf m ≡ 7 + value (getD m 0 0)
@@ -261,19 +261,19 @@ module _ (m : List ℕ) (u : usual m ≡ true) where
 
 -- a message that is told to be the usual menu is taken, and this is what it shows
 module _ (t m : List ℕ) (room : ℕ) (e : isMenu t m room ≡ true) where
-  told : ((usual m ≡ true) × (leb 12 room ≡ true)) × (isNew t ≡ true)
+  told : ((usualMenu m ≡ true) × (leb 12 room ≡ true)) × (isNew t ≡ true)
   unfolding isMenu
   told =
-      let w = both (usual m && leb 12 room) (isNew t) e in
-      (both (usual m) (leb 12 room) (w .0), w .1)
+      let w = both (usualMenu m && leb 12 room) (isNew t) e in
+      (both (usualMenu m) (leb 12 room) (w .0), w .1)
 
-  pub menu-usual : usual m ≡ true
+  pub menu-usual : usualMenu m ≡ true
   menu-usual = told .0 .0
 
   pub menu-fits : size * entryOf m + size ≤ length t
   menu-fits = let l = eqb-true (length t) 70 (both (eqb (length t) 70) _ (told .1) .0) in omega (arith, entry-below m menu-usual)
 
-  pub menu-found : decide t m room ≡ found m
+  pub menu-found : decide t m room ≡ menuDecision m
   unfolding decide
   menu-found =
       let u = menu-usual in

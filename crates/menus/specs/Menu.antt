@@ -38,22 +38,22 @@ hasText m =
     && (eqb (getD m 17 0) 0x04 && eqb (getD m 18 0) (length m - 19))
 
 -- a string of 1 to 114 octets: all lengths have one octet
-unfoldable pub usual : List ℕ → Bool
-usual m = leb 20 (length m) && leb (length m) 133 && (hasHead m && hasInvoke m && hasText m)
+unfoldable pub usualMenu : List ℕ → Bool
+usualMenu m = leb 20 (length m) && leb (length m) 133 && (hasHead m && hasInvoke m && hasText m)
 
 -- nothing stands against it: there is room, and the table is as at the start
 unfoldable pub isMenu : List ℕ → List ℕ → ℕ → Bool
-isMenu table m room = usual m && leb 12 room && isNew table
+isMenu table m room = usualMenu m && leb 12 room && isNew table
 
 -- what it is found to be
-abbrev pub component : List ℕ → Component
-component m = invoke (idOf (getD m 8 0)) none (getD m 11 0) (drop 12 m)
+abbrev pub menuComponent : List ℕ → Component
+menuComponent m = invoke (idOf (getD m 8 0)) none (getD m 11 0) (drop 12 m)
 
-abbrev pub becomes : List ℕ → Entry
-becomes m = record { isOpen = true; own = []; peer = record { id = idOf (getD m 8 0); operation = getD m 11 0 } ∷ [] }
+abbrev pub menuEntry : List ℕ → Entry
+menuEntry m = record { isOpen = true; own = []; peer = record { id = idOf (getD m 8 0); operation = getD m 11 0 } ∷ [] }
 
-abbrev pub shows : List ℕ → Shows
-shows m = shown (component m) []
+abbrev pub menuShown : List ℕ → Shows
+menuShown m = shown (menuComponent m) []
 
-abbrev pub found : List ℕ → Decision
-found m = taken (becomes m) (shows m)
+abbrev pub menuDecision : List ℕ → Decision
+menuDecision m = taken (menuEntry m) (menuShown m)

@@ -9,12 +9,12 @@ ghost use mathlib.Core.Bool.{true};
 ghost use lib.ListN.{length};
 ghost use Rattle.table.specs.Seen.{slotSeen};
 ghost use Rattle.showing.specs.Views.{componentView, textView};
-ghost use Rattle.menus.specs.Menu.{usual, becomes, shows};
+ghost use Rattle.menus.specs.Menu.{usualMenu, menuEntry, menuShown};
 
 // The entry as it becomes: the menu waits for an answer.
 pub fn slot_of(m: &[u8]) -> Slot
-    requires { ⌜ usual (now m) ≡ true ⌝ }
-    ensures { λ r. ⌜ slotSeen r ≡ becomes (now (m .entry)) ⌝ }
+    requires { ⌜ usualMenu (now m) ≡ true ⌝ }
+    ensures { λ r. ⌜ slotSeen r ≡ menuEntry (now (m .entry)) ⌝ }
 {
     let id = codes::ids::id_of(m[8]);
     let operation = m[11];
@@ -29,8 +29,8 @@ pub fn slot_of(m: &[u8]) -> Slot
 }
 
 pub fn component_of(m: &[u8]) -> ComponentView
-    requires { ⌜ usual (now m) ≡ true ⌝ }
-    ensures { λ r. ⌜ r ≡ componentView (length (now (m .entry))) (shows (now (m .entry))) ⌝ }
+    requires { ⌜ usualMenu (now m) ≡ true ⌝ }
+    ensures { λ r. ⌜ r ≡ componentView (length (now (m .entry))) (menuShown (now (m .entry))) ⌝ }
 {
     ComponentView {
         kind: 0xA1,
@@ -51,8 +51,8 @@ pub fn component_of(m: &[u8]) -> ComponentView
 }
 
 pub fn text_of(m: &[u8]) -> TextView
-    requires { ⌜ usual (now m) ≡ true ⌝ }
-    ensures { λ r. ⌜ r ≡ textView (length (now (m .entry))) (shows (now (m .entry))) ⌝ }
+    requires { ⌜ usualMenu (now m) ≡ true ⌝ }
+    ensures { λ r. ⌜ r ≡ textView (length (now (m .entry))) (menuShown (now (m .entry))) ⌝ }
 {
     TextView {
         is_there: true,

@@ -3,7 +3,7 @@ ghost use mathlib.Core.Path.{_≡_};
 ghost use Prim.Native.Nat.{_≤_};
 ghost use lib.ListN.{length};
 ghost use lib.Dec.{eqb};
-ghost use Rattle.menus.specs.Menu.{hasHead, hasInvoke, hasText, usual, isMenu};
+ghost use Rattle.menus.specs.Menu.{hasHead, hasInvoke, hasText, usualMenu, isMenu};
 
 // Whether a length says so many octets.
 fn says(octet: u8, n: usize) -> bool
@@ -42,7 +42,7 @@ fn has_text(m: &[u8]) -> bool
 
 // The form of the usual menu.
 pub fn is_usual(m: &[u8]) -> bool
-    ensures { λ r. ⌜ r ≡ usual (now (m .entry)) ⌝ }
+    ensures { λ r. ⌜ r ≡ usualMenu (now (m .entry)) ⌝ }
 {
     if m.len() < 20 {
         return false;

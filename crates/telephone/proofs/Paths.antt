@@ -30,7 +30,7 @@ use Rattle.deciding.specs.Seen.{toldSeen, actSeen, ActWithin, decisionSeen, Dec
 use Rattle.deciding.specs.declared.Told.{Told}
 use Rattle.deciding.specs.declared.Act.{Act}
 use Rattle.deciding.specs.declared.Decision.{Decision as Made}
-use Rattle.menus.specs.Menu.{becomes, shows, found}
+use Rattle.menus.specs.Menu.{menuEntry, menuShown, menuDecision}
 use Rattle.telephone.specs.Receive.{verdictOf, sentBy, tableBy, causeBy, act, receive}
 use Rattle.telephone.specs.Calls.{called}
 use Rattle.telephone.specs.FromC.{shownAs, receivedOf, withoutCause, ActedAs, calledOf}
@@ -52,7 +52,7 @@ unfolding splice
 splice-none b = refl
 
 -- the usual menu is taken
-pub menu-taken : (t m b : List ℕ) (r : Received) (t′ : List ℕ) → decide t m (length b) ≡ found m → r ≡ shownAs (length m) 0 0 (shows m) none → t′ ≡ withEntry t (entryOf m) (becomes m)
+pub menu-taken : (t m b : List ℕ) (r : Received) (t′ : List ℕ) → decide t m (length b) ≡ menuDecision m → r ≡ shownAs (length m) 0 0 (menuShown m) none → t′ ≡ withEntry t (entryOf m) (menuEntry m)
     → (r ≡ receivedOf (length m) (receive t m b)) × ((b ≡ receive t m b .buffer) × (t′ ≡ receive t m b .table))
 unfolding receive act
 menu-taken t m b r t′ d e f = rw d (e, (splice-none b, f))

@@ -18,7 +18,7 @@ ghost use Rattle.messages.specs.Seen.{partSeen, PartWithin};
 ghost use Rattle.table.specs.Table.{size, closed, withEntry};
 ghost use Rattle.deciding.specs.Seen.{toldSeen, ToldWithin, decisionSeen, DecisionWithin, isSilent, Ready};
 ghost use Rattle.deciding.specs.Steps.{entryOf};
-ghost use Rattle.menus.specs.Menu.{usual, becomes, shows};
+ghost use Rattle.menus.specs.Menu.{usualMenu, menuEntry, menuShown};
 ghost use Rattle.telephone.specs.Receive.{act, receive};
 ghost use Rattle.telephone.specs.FromC.{shownAs, receivedOf, withoutCause, ActedAs};
 
@@ -136,9 +136,9 @@ fn act(table: &mut [u8], message: &[u8], reply: &mut [u8], decision: Decision) -
 
 // The usual menu is taken: every place of it is known.
 fn take_menu(table: &mut [u8], message: &[u8]) -> Received
-    requires { ⌜ (usual (now message) ≡ true) × (size * entryOf (now message) + size ≤ length (now table)) ⌝ }
-    ensures returned { λ r. ⌜ r ≡ shownAs (length (now (message .entry))) 0 0 (shows (now (message .entry))) none ⌝ }
-    ensures table { λ _. ⌜ now (table .exit) ≡ withEntry (now (table .entry)) (entryOf (now (message .entry))) (becomes (now (message .entry))) ⌝ }
+    requires { ⌜ (usualMenu (now message) ≡ true) × (size * entryOf (now message) + size ≤ length (now table)) ⌝ }
+    ensures returned { λ r. ⌜ r ≡ shownAs (length (now (message .entry))) 0 0 (menuShown (now (message .entry))) none ⌝ }
+    ensures table { λ _. ⌜ now (table .exit) ≡ withEntry (now (table .entry)) (entryOf (now (message .entry))) (menuEntry (now (message .entry))) ⌝ }
 {
     let entry = deciding::entry_of(message);
     let slot = menus::shown::slot_of(message);
