@@ -7,8 +7,7 @@ use native.Mathlib.Omega.{arith}
 use lib.IntN.{ℤ}
 use lib.ListN.{length}
 use Rattle.octets.specs.Splice.{splice}
-use Rattle.codes.specs.Ids.{idOf, octetOf}
-use Rattle.codes.proofs.IdLaws.{IsId, id-back}
+use Rattle.codes.proofs.IdLaws.{asHeld, IsId, held-is}
 use Rattle.printing.proofs.JoinLaws.{splice-nil}
 use Rattle.words.specs.declared.Command.the-variants.{Nothing, Unknown, Receive, Begin, Invoke, Result, Error, Release, Table, Buffer}
 use Rattle.telephone.specs.Outcome.{Outcome}
@@ -26,21 +25,21 @@ module _ (t b p : List ℕ) where
   unfolding made
   receive-made at = refl
 
-  pub begin-made : (operation : ℕ) (id : ℤ) (at : ℕ) → IsId id → made t b p (Begin operation id at) ≡ called true (begin t b operation (idOf (octetOf id)) p)
+  pub begin-made : (operation : ℕ) (id : ℤ) (at : ℕ) → IsId id → made t b p (Begin operation id at) ≡ called true (begin t b operation (asHeld id) p)
   unfolding made
-  begin-made operation id at h = ap (λ (z : ℤ). called true (begin t b operation z p)) (sym (id-back h))
+  begin-made operation id at h = ap (λ (z : ℤ). called true (begin t b operation z p)) (sym (held-is h))
 
-  pub invoke-made : (flag value operation : ℕ) (id : ℤ) (at : ℕ) → IsId id → made t b p (Invoke flag value operation id at) ≡ called false (invokeWithin t b flag value operation (idOf (octetOf id)) p)
+  pub invoke-made : (flag value operation : ℕ) (id : ℤ) (at : ℕ) → IsId id → made t b p (Invoke flag value operation id at) ≡ called false (invokeWithin t b flag value operation (asHeld id) p)
   unfolding made
-  invoke-made flag value operation id at h = ap (λ (z : ℤ). called false (invokeWithin t b flag value operation z p)) (sym (id-back h))
+  invoke-made flag value operation id at h = ap (λ (z : ℤ). called false (invokeWithin t b flag value operation z p)) (sym (held-is h))
 
-  pub result-made : (flag value : ℕ) (id : ℤ) (at : ℕ) → IsId id → made t b p (Result flag value id at) ≡ called false (result t b flag value (idOf (octetOf id)) p)
+  pub result-made : (flag value : ℕ) (id : ℤ) (at : ℕ) → IsId id → made t b p (Result flag value id at) ≡ called false (result t b flag value (asHeld id) p)
   unfolding made
-  result-made flag value id at h = ap (λ (z : ℤ). called false (result t b flag value z p)) (sym (id-back h))
+  result-made flag value id at h = ap (λ (z : ℤ). called false (result t b flag value z p)) (sym (held-is h))
 
-  pub error-made : (flag value : ℕ) (id : ℤ) (code at : ℕ) → IsId id → made t b p (Error flag value id code at) ≡ called false (error t b flag value (idOf (octetOf id)) code p)
+  pub error-made : (flag value : ℕ) (id : ℤ) (code at : ℕ) → IsId id → made t b p (Error flag value id code at) ≡ called false (error t b flag value (asHeld id) code p)
   unfolding made
-  error-made flag value id code at h = ap (λ (z : ℤ). called false (error t b flag value z code p)) (sym (id-back h))
+  error-made flag value id code at h = ap (λ (z : ℤ). called false (error t b flag value z code p)) (sym (held-is h))
 
   pub release-made : (flag value : ℕ) → made t b p (Release flag value) ≡ called false (release t b flag value)
   unfolding made

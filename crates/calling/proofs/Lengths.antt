@@ -11,7 +11,7 @@ use lib.ListN.{length, length-append}
 use lib.Dec.{leb, eqb}
 use Rattle.octets.specs.Reader.{fault, sound}
 use Rattle.components.specs.Component.{invoke, error}
-use Rattle.components.specs.Written.{octets, answer, codedLength, answerLength}
+use Rattle.components.specs.Written.{componentOctets, answer, codedLength, answerLength}
 use Rattle.writing.proofs.WriteLaws.{invoke-octets, error-octets, answer-octets}
 use Rattle.messages.specs.Layout.{register, facilityMessage}
 use Rattle.calling.specs.Calls.{Sending, fitting}
@@ -58,19 +58,19 @@ module _ (room : ℕ) (s : Sending) (n : ℕ) (e : length (s .message) ≡ n) wh
 
 -- how long each message is, by the length of its parameter
 module _ (first : ℕ) (id : ℤ) (o : ℕ) (p : List ℕ) where
-  pub register-octets : length (register first (octets (invoke id none o p))) ≡ 7 + codedLength (length p)
+  pub register-octets : length (register first (componentOctets (invoke id none o p))) ≡ 7 + codedLength (length p)
   unfolding register
-  register-octets = omega (arith, length-append (octets (invoke id none o p)) (0x7F ∷ 0x01 ∷ 0x00 ∷ []), invoke-octets id o p)
+  register-octets = omega (arith, length-append (componentOctets (invoke id none o p)) (0x7F ∷ 0x01 ∷ 0x00 ∷ []), invoke-octets id o p)
 
-  pub facility-invoke : length (facilityMessage first (octets (invoke id none o p))) ≡ 3 + codedLength (length p)
+  pub facility-invoke : length (facilityMessage first (componentOctets (invoke id none o p))) ≡ 3 + codedLength (length p)
   unfolding facilityMessage
   facility-invoke = omega (arith, invoke-octets id o p)
 
-  pub facility-error : length (facilityMessage first (octets (error id o p))) ≡ 3 + codedLength (length p)
+  pub facility-error : length (facilityMessage first (componentOctets (error id o p))) ≡ 3 + codedLength (length p)
   unfolding facilityMessage
   facility-error = omega (arith, error-octets id o p)
 
-  pub facility-answer : length (facilityMessage first (octets (answer id o p))) ≡ 3 + answerLength (length p)
+  pub facility-answer : length (facilityMessage first (componentOctets (answer id o p))) ≡ 3 + answerLength (length p)
   unfolding facilityMessage
   facility-answer = omega (arith, answer-octets id o p)
 

@@ -10,15 +10,14 @@ use lib.IntN.{ℤ}
 use lib.ListN.{length}
 use lib.Dec.{leb, eqb}
 use Rattle.octets.specs.Reader.{fault, sound}
-use Rattle.codes.specs.Ids.{idOf, octetOf}
 use Rattle.codes.specs.Operations.{begins}
 use Rattle.codes.specs.Errors.{listed}
-use Rattle.codes.proofs.IdLaws.{IsId, id-back}
+use Rattle.codes.proofs.IdLaws.{asHeld, IsId, held-is}
 use Rattle.parameters.specs.Suits.{suits, noneOrOne, InvokeWritten, ResultWritten}
 use Rattle.components.specs.Component.{invoke, error}
-use Rattle.components.specs.Written.{octets, answer, codedLength, answerLength}
+use Rattle.components.specs.Written.{componentOctets, answer, codedLength, answerLength}
 use Rattle.messages.specs.Layout.{sentFirst, register, facilityMessage, release}
-use Rattle.table.specs.Table.{place, named, entryAt, valid, lowestClosed}
+use Rattle.table.specs.Table.{entryNumber, named, entryAt, valid, lowestClosed}
 use Rattle.table.specs.Seen.{invokeSeen, slotSeen}
 use Rattle.table.specs.declared.Slot.{Slot}
 use Rattle.table.specs.declared.Invoke.{Invoke}
@@ -26,8 +25,8 @@ use Rattle.table.specs.declared.Named.{Named}
 use Rattle.table.proofs.TableLaws.{valid-each, lowest-closed-is}
 use Rattle.judging.specs.StepSix.{among, full, operationOf}
 use Rattle.judging.proofs.Paths.{room as none-waits, cleared}
-use Rattle.calling.specs.Calls.{Sending, transaction, fitting, begin, invokeWithin, sendResult, sendError, sendRelease}
-use Rattle.calling.specs.Seen.{callSeen, CallWithin, lengthRefusal, NamedWithin}
+use Rattle.calling.specs.Calls.{Sending, transaction, fitting, sendBegin, sendInvoke, sendResult, sendError, sendRelease}
+use Rattle.calling.specs.Seen.{callSeen, CallWithin, lengthRefusal, NamedWithin, begun, invoked, answered, erred, ended}
 use Rattle.calling.specs.declared.Call.{Call}
 use Rattle.calling.proofs.Lengths.{too-long, refused, fits, register-octets, facility-invoke, facility-error, facility-answer, long-answer}
 
@@ -36,7 +35,7 @@ within : (t : List ℕ) (k : ℕ) → valid t ≡ true → k ≤ 13 → 5 * k + 
 within t k v h = omega (arith, valid-each t v .0)
 
 -- an entry that a flag and a value name
-place-within : (flag value : ℕ) → value ≤ 6 → place flag value ≤ 13
+place-within : (flag value : ℕ) → value ≤ 6 → entryNumber flag value ≤ 13
 place-within flag value h = by (eqb flag 1)
   where
     by : (b : Bool) → cond b value (7 + value) ≤ 13
@@ -46,10 +45,10 @@ place-within flag value h = by (eqb flag 1)
 named-within : (flag value k : ℕ) → named flag value ≡ some k → (flag ≤ 1) × ((value ≤ 6) × (k ≤ 13))
 named-within flag value k e = by (leb flag 1) (leb value 6) refl refl e
   where
-    by : (a b : Bool) → leb flag 1 ≡ a → leb value 6 ≡ b → cond (a && b) (some (place flag value)) none ≡ some k → (flag ≤ 1) × ((value ≤ 6) × (k ≤ 13))
+    by : (a b : Bool) → leb flag 1 ≡ a → leb value 6 ≡ b → cond (a && b) (some (entryNumber flag value)) none ≡ some k → (flag ≤ 1) × ((value ≤ 6) × (k ≤ 13))
     by true true p q e =
         let h : value ≤ 6 = leb-true _ _ q in
-        let z : place flag value ≡ k = cc in
+        let z : entryNumber flag value ≡ k = cc in
         (leb-true _ _ p, (h, rw z at (place-within flag value h)))
     by true false p q e = let z : _≡_ {A = ℕ} 0 1 = cc in absurd (omega arith)
     by false b p q e = let z : _≡_ {A = ℕ} 0 1 = cc in absurd (omega arith)
@@ -71,110 +70,104 @@ module _ (table : List ℕ) (flag value : ℕ) where
 
 -- begin; an id that the code stores is the one that its octet says
 module _ (table : List ℕ) (room operation : ℕ) (id : ℤ) (p : List ℕ) where
-  abbrev begun : ℕ → ℕ → List ℕ
-  begun v o = register (sentFirst 1 v) (octets (invoke id none operation p))
-
   begin-sends : ℕ → Sending
-  begin-sends v = record { entry = v; becomes = record { isOpen = true; own = record { id = id; operation = operation } ∷ []; peer = [] }; message = begun v operation }
+  begin-sends v = record { entry = v; becomes = record { isOpen = true; own = record { id = id; operation = operation } ∷ []; peer = [] }; message = begun operation id p v operation }
 
   abbrev pub begunSlot : Slot
-  begunSlot = record { «open» = true; own = Invoke.Waits (idOf (octetOf id)) operation; peer = Invoke.Absent }
+  begunSlot = record { «open» = true; own = Invoke.Waits (asHeld id) operation; peer = Invoke.Absent }
 
-  pub begin-damaged : valid table ≡ false → fault 28 ≡ begin table room operation id p
-  unfolding begin
+  pub begin-damaged : valid table ≡ false → fault 28 ≡ sendBegin table room operation id p
+  unfolding sendBegin
   begin-damaged d = rw d
 
   module _ (d : valid table ≡ true) where
-    pub begin-unlisted : begins operation ≡ false → fault 20 ≡ begin table room operation id p
-    unfolding begin
+    pub begin-unlisted : begins operation ≡ false → fault 20 ≡ sendBegin table room operation id p
+    unfolding sendBegin
     begin-unlisted b = rw (d, b)
 
     module _ (b : begins operation ≡ true) where
-      pub begin-full : lowestClosed table ≡ none → fault 21 ≡ begin table room operation id p
-      unfolding begin
+      pub begin-full : lowestClosed table ≡ none → fault 21 ≡ sendBegin table room operation id p
+      unfolding sendBegin
       begin-full l = rw (d, b, l)
 
       module _ (v : ℕ) (l : lowestClosed table ≡ some v) where
-        pub begin-unsuited : suits InvokeWritten operation p ≡ false → fault 25 ≡ begin table room operation id p
-        unfolding begin
+        pub begin-unsuited : suits InvokeWritten operation p ≡ false → fault 25 ≡ sendBegin table room operation id p
+        unfolding sendBegin
         begin-unsuited s = rw (d, b, l, s)
 
         module _ (s : suits InvokeWritten operation p ≡ true) where
-          begin-ready : fitting room (begin-sends v) ≡ begin table room operation id p
-          unfolding begin begin-sends
+          begin-ready : fitting room (begin-sends v) ≡ sendBegin table room operation id p
+          unfolding sendBegin begin-sends
           begin-ready = rw (d, b, l, s)
 
-          pub begin-long : 255 < length p → fault 26 ≡ begin table room operation id p
+          pub begin-long : 255 < length p → fault 26 ≡ sendBegin table room operation id p
           unfolding begin-sends
           begin-long h = too-long room (begin-sends v) (7 + codedLength (length p)) (register-octets (sentFirst 1 v) id operation p) (omega arith) ∙ begin-ready
 
           module _ (r : ℕ) (e : r ≡ lengthRefusal (7 + codedLength (length p)) room) where
-            pub begin-refused : (r ≡ 0 → ⊥) → fault r ≡ begin table room operation id p
+            pub begin-refused : (r ≡ 0 → ⊥) → fault r ≡ sendBegin table room operation id p
             unfolding begin-sends
             begin-refused n = refused room (begin-sends v) (7 + codedLength (length p)) (register-octets (sentFirst 1 v) id operation p) r e n ∙ begin-ready
 
-            pub begin-goes : r ≡ 0 → IsId id → (callSeen begun (Call.Goes v begunSlot operation) ≡ begin table room operation id p) × CallWithin table room 1 0 begun (Call.Goes v begunSlot operation)
+            pub begin-goes : r ≡ 0 → IsId id → (callSeen (begun operation id p) (Call.Goes v begunSlot operation) ≡ sendBegin table room operation id p) × CallWithin table room 1 0 (begun operation id p) (Call.Goes v begunSlot operation)
             unfolding begin-sends
             begin-goes z i =
                 let f = fits room (begin-sends v) (7 + codedLength (length p)) (register-octets (sentFirst 1 v) id operation p) r e z in
-                (rw (id-back i) (f .0 ∙ begin-ready), (within table v d (omega (arith, lowest-closed-is table v l .0)), (omega arith, (omega arith, f .1))))
+                (rw (held-is i) (f .0 ∙ begin-ready), (within table v d (omega (arith, lowest-closed-is table v l .0)), (omega arith, (omega arith, f .1))))
 
 -- invoke within
 module _ (table : List ℕ) (room flag value operation : ℕ) (id : ℤ) (p : List ℕ) where
-  abbrev invoked : ℕ → ℕ → List ℕ
-  invoked k o = facilityMessage (sentFirst flag value) (octets (invoke id none operation p))
-
   invoke-sends : ℕ → Slot → Sending
-  invoke-sends k slot = record { entry = k; becomes = record { isOpen = true; own = record { id = id; operation = operation } ∷ []; peer = invokeSeen (slot .peer) }; message = invoked k operation }
+  invoke-sends k slot = record { entry = k; becomes = record { isOpen = true; own = record { id = id; operation = operation } ∷ []; peer = invokeSeen (slot .peer) }; message = invoked flag value operation id p k operation }
 
   abbrev pub invokedSlot : Slot → Slot
-  invokedSlot slot = record { «open» = true; own = Invoke.Waits (idOf (octetOf id)) operation; peer = slot .peer }
+  invokedSlot slot = record { «open» = true; own = Invoke.Waits (asHeld id) operation; peer = slot .peer }
 
-  pub invoke-damaged : valid table ≡ false → fault 28 ≡ invokeWithin table room flag value operation id p
-  unfolding invokeWithin
+  pub invoke-damaged : valid table ≡ false → fault 28 ≡ sendInvoke table room flag value operation id p
+  unfolding sendInvoke
   invoke-damaged d = rw d
 
   module _ (d : valid table ≡ true) where
-    pub invoke-unlisted : begins operation ≡ false → fault 20 ≡ invokeWithin table room flag value operation id p
-    unfolding invokeWithin
+    pub invoke-unlisted : begins operation ≡ false → fault 20 ≡ sendInvoke table room flag value operation id p
+    unfolding sendInvoke
     invoke-unlisted b = rw (d, b)
 
     module _ (b : begins operation ≡ true) where
-      pub invoke-closed : fault 22 ≡ transaction table flag value → fault 22 ≡ invokeWithin table room flag value operation id p
-      unfolding invokeWithin
+      pub invoke-closed : fault 22 ≡ transaction table flag value → fault 22 ≡ sendInvoke table room flag value operation id p
+      unfolding sendInvoke
       invoke-closed t = rw (d, b, ← t)
 
       module _ (k : ℕ) (t : sound k ≡ transaction table flag value) (slot : Slot) (seen : slotSeen slot ≡ entryAt table k) where
-        pub invoke-full : full (invokeSeen (slot .own)) ≡ true → fault 23 ≡ invokeWithin table room flag value operation id p
-        unfolding invokeWithin
+        pub invoke-full : full (invokeSeen (slot .own)) ≡ true → fault 23 ≡ sendInvoke table room flag value operation id p
+        unfolding sendInvoke
         invoke-full f = rw (d, b, ← t, ← seen, f)
 
         module _ (f : full (invokeSeen (slot .own)) ≡ false) where
-          pub invoke-unsuited : suits InvokeWritten operation p ≡ false → fault 25 ≡ invokeWithin table room flag value operation id p
-          unfolding invokeWithin
+          pub invoke-unsuited : suits InvokeWritten operation p ≡ false → fault 25 ≡ sendInvoke table room flag value operation id p
+          unfolding sendInvoke
           invoke-unsuited s = rw (d, b, ← t, ← seen, f, s)
 
           module _ (s : suits InvokeWritten operation p ≡ true) where
-            invoke-ready : fitting room (invoke-sends k slot) ≡ invokeWithin table room flag value operation id p
-            unfolding invokeWithin invoke-sends
+            invoke-ready : fitting room (invoke-sends k slot) ≡ sendInvoke table room flag value operation id p
+            unfolding sendInvoke invoke-sends
             invoke-ready = rw (d, b, ← t, ← seen, f, s, none-waits (slot .own) f)
 
-            pub invoke-long : 255 < length p → fault 26 ≡ invokeWithin table room flag value operation id p
+            pub invoke-long : 255 < length p → fault 26 ≡ sendInvoke table room flag value operation id p
             unfolding invoke-sends
             invoke-long h = too-long room (invoke-sends k slot) (3 + codedLength (length p)) (facility-invoke (sentFirst flag value) id operation p) (omega arith) ∙ invoke-ready
 
             module _ (r : ℕ) (e : r ≡ lengthRefusal (3 + codedLength (length p)) room) where
-              pub invoke-refused : (r ≡ 0 → ⊥) → fault r ≡ invokeWithin table room flag value operation id p
+              pub invoke-refused : (r ≡ 0 → ⊥) → fault r ≡ sendInvoke table room flag value operation id p
               unfolding invoke-sends
               invoke-refused n = refused room (invoke-sends k slot) (3 + codedLength (length p)) (facility-invoke (sentFirst flag value) id operation p) r e n ∙ invoke-ready
 
               pub invoke-goes : r ≡ 0 → IsId id → NamedWithin flag value (Named.At k)
-                  → (callSeen invoked (Call.Goes k (invokedSlot slot) operation) ≡ invokeWithin table room flag value operation id p)
-                  × CallWithin table room flag value invoked (Call.Goes k (invokedSlot slot) operation)
+                  → (callSeen (invoked flag value operation id p) (Call.Goes k (invokedSlot slot) operation) ≡ sendInvoke table room flag value operation id p)
+                  × CallWithin table room flag value (invoked flag value operation id p) (Call.Goes k (invokedSlot slot) operation)
               unfolding invoke-sends
               invoke-goes z i w =
                   let f = fits room (invoke-sends k slot) (3 + codedLength (length p)) (facility-invoke (sentFirst flag value) id operation p) r e z in
-                  (rw (id-back i) (f .0 ∙ invoke-ready), (within table k d (w .1 .1), (w .0, (w .1 .0, f .1))))
+                  (rw (held-is i) (f .0 ∙ invoke-ready), (within table k d (w .1 .1), (w .0, (w .1 .0, f .1))))
 
 -- the peer's invoke is answered
 abbrev pub clearedSlot : Slot → Slot
@@ -182,11 +175,8 @@ clearedSlot slot = record { «open» = slot .«open»; own = slot .own; peer = I
 
 -- result
 module _ (table : List ℕ) (room flag value : ℕ) (id : ℤ) (p : List ℕ) where
-  abbrev answered : ℕ → ℕ → List ℕ
-  answered k o = facilityMessage (sentFirst flag value) (octets (answer id o p))
-
   result-sends : ℕ → Slot → ℕ → Sending
-  result-sends k slot o = record { entry = k; becomes = record { isOpen = slot .«open»; own = invokeSeen (slot .own); peer = [] }; message = answered k o }
+  result-sends k slot o = record { entry = k; becomes = record { isOpen = slot .«open»; own = invokeSeen (slot .own); peer = [] }; message = answered flag value id p k o }
 
   pub result-damaged : valid table ≡ false → fault 28 ≡ sendResult table room flag value id p
   unfolding sendResult
@@ -222,8 +212,8 @@ module _ (table : List ℕ) (room flag value : ℕ) (id : ℤ) (p : List ℕ) wh
             result-refused n = refused room (result-sends k slot o) (3 + answerLength (length p)) (facility-answer (sentFirst flag value) id o p) r e n ∙ result-ready
 
             pub result-goes : r ≡ 0 → NamedWithin flag value (Named.At k)
-                → (callSeen answered (Call.Goes k (clearedSlot slot) o) ≡ sendResult table room flag value id p)
-                × CallWithin table room flag value answered (Call.Goes k (clearedSlot slot) o)
+                → (callSeen (answered flag value id p) (Call.Goes k (clearedSlot slot) o) ≡ sendResult table room flag value id p)
+                × CallWithin table room flag value (answered flag value id p) (Call.Goes k (clearedSlot slot) o)
                 × (o ≡ operationOf id (entryAt table k .peer))
             unfolding result-sends
             result-goes z w =
@@ -232,11 +222,8 @@ module _ (table : List ℕ) (room flag value : ℕ) (id : ℤ) (p : List ℕ) wh
 
 -- error
 module _ (table : List ℕ) (room flag value : ℕ) (id : ℤ) (code : ℕ) (p : List ℕ) where
-  abbrev erred : ℕ → ℕ → List ℕ
-  erred k o = facilityMessage (sentFirst flag value) (octets (error id code p))
-
   error-sends : ℕ → Slot → Sending
-  error-sends k slot = record { entry = k; becomes = record { isOpen = slot .«open»; own = invokeSeen (slot .own); peer = [] }; message = erred k 0 }
+  error-sends k slot = record { entry = k; becomes = record { isOpen = slot .«open»; own = invokeSeen (slot .own); peer = [] }; message = erred flag value id code p k 0 }
 
   pub error-damaged : valid table ≡ false → fault 28 ≡ sendError table room flag value id code p
   unfolding sendError
@@ -277,8 +264,8 @@ module _ (table : List ℕ) (room flag value : ℕ) (id : ℤ) (code : ℕ) (p :
               error-refused n = refused room (error-sends k slot) (3 + codedLength (length p)) (facility-error (sentFirst flag value) id code p) r e n ∙ error-ready
 
               pub error-goes : r ≡ 0 → NamedWithin flag value (Named.At k)
-                  → (callSeen erred (Call.Goes k (clearedSlot slot) 0) ≡ sendError table room flag value id code p)
-                  × CallWithin table room flag value erred (Call.Goes k (clearedSlot slot) 0)
+                  → (callSeen (erred flag value id code p) (Call.Goes k (clearedSlot slot) 0) ≡ sendError table room flag value id code p)
+                  × CallWithin table room flag value (erred flag value id code p) (Call.Goes k (clearedSlot slot) 0)
               unfolding error-sends
               error-goes z w =
                   let f = fits room (error-sends k slot) (3 + codedLength (length p)) (facility-error (sentFirst flag value) id code p) r e z in
@@ -289,9 +276,6 @@ abbrev pub closedSlot : Slot
 closedSlot = record { «open» = false; own = Invoke.Absent; peer = Invoke.Absent }
 
 module _ (table : List ℕ) (room flag value : ℕ) where
-  abbrev released : ℕ → ℕ → List ℕ
-  released k o = release (sentFirst flag value)
-
   pub release-damaged : valid table ≡ false → fault 28 ≡ sendRelease table room flag value
   unfolding sendRelease
   release-damaged d = rw d
@@ -307,6 +291,6 @@ module _ (table : List ℕ) (room flag value : ℕ) where
       release-short h = rw (d, ← t, lt-leb 2 room h)
 
       pub release-goes : 2 ≤ room → NamedWithin flag value (Named.At k)
-          → (callSeen released (Call.Goes k closedSlot 0) ≡ sendRelease table room flag value) × CallWithin table room flag value released (Call.Goes k closedSlot 0)
+          → (callSeen (ended flag value) (Call.Goes k closedSlot 0) ≡ sendRelease table room flag value) × CallWithin table room flag value (ended flag value) (Call.Goes k closedSlot 0)
       unfolding sendRelease fitting
       release-goes h w = (rw (d, ← t, le-leb 2 room h), (within table k d (w .1 .1), (w .0, (w .1 .0, (omega arith, h)))))

@@ -12,9 +12,9 @@ use Rattle.codes.specs.Operations.{begins}
 use Rattle.codes.specs.Errors.{listed}
 use Rattle.parameters.specs.Suits.{suits, noneOrOne, InvokeWritten, ResultWritten}
 use Rattle.components.specs.Component.{invoke, error}
-use Rattle.components.specs.Written.{octets, answer}
+use Rattle.components.specs.Written.{componentOctets, answer}
 use Rattle.messages.specs.Layout.{sentFirst, register, facilityMessage, release}
-use Rattle.table.specs.Table.{Entry, closed, place, named, entryAt, valid, lowestClosed}
+use Rattle.table.specs.Table.{Entry, closed, entryNumber, named, entryAt, valid, lowestClosed}
 use Rattle.judging.specs.StepSix.{among, full, operationOf, without}
 
 pub record Sending : Type 0 where
@@ -43,22 +43,22 @@ abbrev pub withoutPeer : Entry → ℤ → Entry
 withoutPeer e id = record { isOpen = e .isOpen; own = e .own; peer = without id (e .peer) }
 
 -- "28 damaged image or not 70 octets; 20 operation not listed; 21 no own value closed; 25 parameter"
-unfoldable pub begin : List ℕ → ℕ → ℕ → ℤ → List ℕ → Answer Sending
-begin table room operation id p =
+unfoldable pub sendBegin : List ℕ → ℕ → ℕ → ℤ → List ℕ → Answer Sending
+sendBegin table room operation id p =
     check (valid table) 28
     (check (begins operation) 20
     (andThen (orRefused 21 (lowestClosed table)) (λ v.
     check (suits InvokeWritten operation p) 25
     (fitting room
     (record {
-      entry = place 1 v;
+      entry = entryNumber 1 v;
       becomes = withOwn closed id operation;
-      message = register (sentFirst 1 v) (octets (invoke id none operation p));
+      message = register (sentFirst 1 v) (componentOctets (invoke id none operation p));
     })))))
 
 -- "22 transaction not open; 23 own invoke outstanding"
-unfoldable pub invokeWithin : List ℕ → ℕ → ℕ → ℕ → ℕ → ℤ → List ℕ → Answer Sending
-invokeWithin table room flag value operation id p =
+unfoldable pub sendInvoke : List ℕ → ℕ → ℕ → ℕ → ℕ → ℤ → List ℕ → Answer Sending
+sendInvoke table room flag value operation id p =
     check (valid table) 28
     (check (begins operation) 20
     (andThen (transaction table flag value) (λ k.
@@ -68,7 +68,7 @@ invokeWithin table room flag value operation id p =
     (record {
       entry = k;
       becomes = withOwn (entryAt table k) id operation;
-      message = facilityMessage (sentFirst flag value) (octets (invoke id none operation p));
+      message = facilityMessage (sentFirst flag value) (componentOctets (invoke id none operation p));
     }))))))
 
 -- "24 no such peer invoke"
@@ -82,7 +82,7 @@ sendResult table room flag value id p =
     (record {
       entry = k;
       becomes = withoutPeer (entryAt table k) id;
-      message = facilityMessage (sentFirst flag value) (octets (answer id (operationOf id (entryAt table k .peer)) p));
+      message = facilityMessage (sentFirst flag value) (componentOctets (answer id (operationOf id (entryAt table k .peer)) p));
     })))))
 
 -- "20 .. error code not listed"; "25 parameter, which for an error is none or one element"
@@ -97,7 +97,7 @@ sendError table room flag value id code p =
     (record {
       entry = k;
       becomes = withoutPeer (entryAt table k) id;
-      message = facilityMessage (sentFirst flag value) (octets (error id code p));
+      message = facilityMessage (sentFirst flag value) (componentOctets (error id code p));
     }))))))
 
 -- "Release closes the entry"; "release sends the two octets of RELEASE COMPLETE"

@@ -1,15 +1,21 @@
--- What the code's answers mean. The message is told by the entry and the operation; it is not written yet.
+-- What the code's answers mean, and what is promised of them. The message is told by the entry and the operation; it is not written yet.
 use Prim.Native.Nat.{ℕ, _+_, _*_, _≤_}
 use mathlib.Core.Path.{_≡_}
 use mathlib.Core.List.{List}
 use mathlib.Core.Bool.{cond}
+use mathlib.Core.Option.{none}
+use lib.IntN.{ℤ}
 use lib.ListN.{length}
 use lib.Dec.{leb}
 use Rattle.octets.specs.Reader.{Answer, fault, sound}
-use Rattle.table.specs.Table.{size}
-use Rattle.table.specs.Seen.{slotSeen}
+use Rattle.components.specs.Component.{invoke, error}
+use Rattle.components.specs.Written.{componentOctets, answer}
+use Rattle.messages.specs.Layout.{sentFirst, register, facilityMessage, release}
+use Rattle.table.specs.Table.{size, entryAt}
+use Rattle.table.specs.Seen.{slotSeen, namedSeen}
 use Rattle.table.specs.declared.Named.{Named}
-use Rattle.calling.specs.Calls.{Sending}
+use Rattle.judging.specs.StepSix.{operationOf}
+use Rattle.calling.specs.Calls.{Sending, orRefused, transaction, sendBegin, sendInvoke, sendResult, sendError, sendRelease}
 use Rattle.calling.specs.declared.Call.{Call}
 
 abbrev pub callSeen : (ℕ → ℕ → List ℕ) → Call → Answer Sending
@@ -28,6 +34,47 @@ abbrev pub CallNames : (ℕ → ℕ) → Call → Type 0
 CallNames named (Call.Refused number) = Unit {0}
 CallNames named (Call.Goes entry slot operation) = operation ≡ named entry
 
+-- a call is refused or goes as its definition says
+abbrev pub DecidesCall : Answer Sending → (ℕ → ℕ → List ℕ) → (ℕ → ℕ) → List ℕ → ℕ → ℕ → ℕ → Call → Type 0
+DecidesCall definition message named table room flag value call =
+    (callSeen message call ≡ definition) × (CallWithin table room flag value message call × CallNames named call)
+
+-- the message of each call, by the entry and the operation that are told
+abbrev pub begun : ℕ → ℤ → List ℕ → ℕ → ℕ → List ℕ
+begun operation id p v o = register (sentFirst 1 v) (componentOctets (invoke id none operation p))
+
+abbrev pub invoked : ℕ → ℕ → ℕ → ℤ → List ℕ → ℕ → ℕ → List ℕ
+invoked flag value operation id p k o = facilityMessage (sentFirst flag value) (componentOctets (invoke id none operation p))
+
+abbrev pub answered : ℕ → ℕ → ℤ → List ℕ → ℕ → ℕ → List ℕ
+answered flag value id p k o = facilityMessage (sentFirst flag value) (componentOctets (answer id o p))
+
+abbrev pub erred : ℕ → ℕ → ℤ → ℕ → List ℕ → ℕ → ℕ → List ℕ
+erred flag value id code p k o = facilityMessage (sentFirst flag value) (componentOctets (error id code p))
+
+abbrev pub ended : ℕ → ℕ → ℕ → ℕ → List ℕ
+ended flag value k o = release (sentFirst flag value)
+
+abbrev pub DecidesBegin : List ℕ → ℕ → ℕ → ℤ → List ℕ → Call → Type 0
+DecidesBegin table room operation id p call =
+    DecidesCall (sendBegin table room operation id p) (begun operation id p) (λ k. operation) table room 1 0 call
+
+abbrev pub DecidesInvoke : List ℕ → ℕ → ℕ → ℕ → ℕ → ℤ → List ℕ → Call → Type 0
+DecidesInvoke table room flag value operation id p call =
+    DecidesCall (sendInvoke table room flag value operation id p) (invoked flag value operation id p) (λ k. operation) table room flag value call
+
+abbrev pub DecidesResult : List ℕ → ℕ → ℕ → ℕ → ℤ → List ℕ → Call → Type 0
+DecidesResult table room flag value id p call =
+    DecidesCall (sendResult table room flag value id p) (answered flag value id p) (λ k. operationOf id (entryAt table k .peer)) table room flag value call
+
+abbrev pub DecidesError : List ℕ → ℕ → ℕ → ℕ → ℤ → ℕ → List ℕ → Call → Type 0
+DecidesError table room flag value id code p call =
+    DecidesCall (sendError table room flag value id code p) (erred flag value id code p) (λ k. 0) table room flag value call
+
+abbrev pub DecidesRelease : List ℕ → ℕ → ℕ → ℕ → Call → Type 0
+DecidesRelease table room flag value call =
+    DecidesCall (sendRelease table room flag value) (ended flag value) (λ k. 0) table room flag value call
+
 -- the refusal of a message by its length; 0 where it fits
 abbrev pub lengthRefusal : ℕ → ℕ → ℕ
 lengthRefusal n room = cond (leb n 255) (cond (leb n room) 0 27) 26
@@ -36,3 +83,7 @@ lengthRefusal n room = cond (leb n 255) (cond (leb n room) 0 27) 26
 abbrev pub NamedWithin : ℕ → ℕ → Named → Type 0
 NamedWithin flag value Named.Nothing = Unit {0}
 NamedWithin flag value (Named.At k) = (flag ≤ 1) × ((value ≤ 6) × (k ≤ 13))
+
+-- the entry of an open transaction, or 22
+abbrev pub FindsOpen : List ℕ → ℕ → ℕ → Named → Type 0
+FindsOpen table flag value named = (orRefused 22 (namedSeen named) ≡ transaction table flag value) × NamedWithin flag value named

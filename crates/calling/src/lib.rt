@@ -3,15 +3,7 @@ use table::Invoke;
 use table::Named;
 use table::Slot;
 ghost use mathlib.Core.Path.{_≡_};
-ghost use mathlib.Core.Option.{none};
-ghost use Rattle.components.specs.Component.{invoke, error};
-ghost use Rattle.components.specs.Written.{octets, answer};
-ghost use Rattle.messages.specs.Layout.{sentFirst, register, facilityMessage, release};
-ghost use Rattle.table.specs.Table.{entryAt};
-ghost use Rattle.table.specs.Seen.{namedSeen};
-ghost use Rattle.judging.specs.StepSix.{operationOf};
-ghost use Rattle.calling.specs.Calls.{orRefused, transaction, begin, invokeWithin, sendResult, sendError, sendRelease};
-ghost use Rattle.calling.specs.Seen.{callSeen, CallWithin, CallNames, lengthRefusal, NamedWithin};
+ghost use Rattle.calling.specs.Seen.{FindsOpen, lengthRefusal, DecidesBegin, DecidesInvoke, DecidesResult, DecidesError, DecidesRelease};
 
 // Refused, or the entry with what it becomes and the operation that the message names.
 pub enum Call {
@@ -25,8 +17,7 @@ pub enum Call {
 
 // The entry of an open transaction.
 fn find_open(table: &[u8], flag: u8, value: u8) -> Named
-    ensures finds { λ r. ⌜ orRefused 22 (namedSeen r) ≡ transaction (now (table .entry)) flag value ⌝ }
-    ensures within { λ r. ⌜ NamedWithin flag value r ⌝ }
+    ensures { λ r. ⌜ FindsOpen (now (table .entry)) flag value r ⌝ }
 {
     let Named::At(k) = table::entry_named(flag, value) else {
         return Named::Nothing;
@@ -52,9 +43,7 @@ fn length_refusal(n: usize, room: usize) -> u8
 }
 
 pub fn decide_begin(table: &[u8], room: usize, operation: u8, id: i8, p: &[u8]) -> Call
-    ensures decides { λ r. ⌜ callSeen (λ v o. register (sentFirst 1 v) (octets (invoke id none operation (now (p .entry))))) r ≡ begin (now (table .entry)) room operation id (now (p .entry)) ⌝ }
-    ensures within { λ r. ⌜ CallWithin (now (table .entry)) room 1 0 (λ v o. register (sentFirst 1 v) (octets (invoke id none operation (now (p .entry))))) r ⌝ }
-    ensures names { λ r. ⌜ CallNames (λ k. operation) r ⌝ }
+    ensures { λ r. ⌜ DecidesBegin (now (table .entry)) room operation id (now (p .entry)) r ⌝ }
 {
     if !table::is_valid(table) {
         return Call::Refused(28);
@@ -100,9 +89,7 @@ pub fn decide_invoke(
     id: i8,
     p: &[u8],
 ) -> Call
-    ensures decides { λ r. ⌜ callSeen (λ k o. facilityMessage (sentFirst flag value) (octets (invoke id none operation (now (p .entry))))) r ≡ invokeWithin (now (table .entry)) room flag value operation id (now (p .entry)) ⌝ }
-    ensures within { λ r. ⌜ CallWithin (now (table .entry)) room flag value (λ k o. facilityMessage (sentFirst flag value) (octets (invoke id none operation (now (p .entry))))) r ⌝ }
-    ensures names { λ r. ⌜ CallNames (λ k. operation) r ⌝ }
+    ensures { λ r. ⌜ DecidesInvoke (now (table .entry)) room flag value operation id (now (p .entry)) r ⌝ }
 {
     if !table::is_valid(table) {
         return Call::Refused(28);
@@ -125,7 +112,7 @@ pub fn decide_invoke(
     if 255 < p.len() {
         return Call::Refused(26);
     }
-    let refusal = length_refusal(sending::coded_length(p.len()), room);
+    let refusal = length_refusal(sending::facility_length(p.len()), room);
     if refusal != 0 {
         return Call::Refused(refusal);
     }
@@ -144,9 +131,7 @@ pub fn decide_invoke(
 }
 
 pub fn decide_result(table: &[u8], room: usize, flag: u8, value: u8, id: i8, p: &[u8]) -> Call
-    ensures decides { λ r. ⌜ callSeen (λ k o. facilityMessage (sentFirst flag value) (octets (answer id o (now (p .entry))))) r ≡ sendResult (now (table .entry)) room flag value id (now (p .entry)) ⌝ }
-    ensures within { λ r. ⌜ CallWithin (now (table .entry)) room flag value (λ k o. facilityMessage (sentFirst flag value) (octets (answer id o (now (p .entry))))) r ⌝ }
-    ensures names { λ r. ⌜ CallNames (λ k. operationOf id (entryAt (now (table .entry)) k .peer)) r ⌝ }
+    ensures { λ r. ⌜ DecidesResult (now (table .entry)) room flag value id (now (p .entry)) r ⌝ }
 {
     if !table::is_valid(table) {
         return Call::Refused(28);
@@ -167,7 +152,7 @@ pub fn decide_result(table: &[u8], room: usize, flag: u8, value: u8, id: i8, p: 
     if 255 < p.len() {
         return Call::Refused(26);
     }
-    let refusal = length_refusal(sending::answer_length(p.len()), room);
+    let refusal = length_refusal(sending::facility_answer_length(p.len()), room);
     if refusal != 0 {
         return Call::Refused(refusal);
     }
@@ -191,9 +176,7 @@ pub fn decide_error(
     code: u8,
     p: &[u8],
 ) -> Call
-    ensures decides { λ r. ⌜ callSeen (λ k o. facilityMessage (sentFirst flag value) (octets (error id code (now (p .entry))))) r ≡ sendError (now (table .entry)) room flag value id code (now (p .entry)) ⌝ }
-    ensures within { λ r. ⌜ CallWithin (now (table .entry)) room flag value (λ k o. facilityMessage (sentFirst flag value) (octets (error id code (now (p .entry))))) r ⌝ }
-    ensures names { λ r. ⌜ CallNames (λ k. 0) r ⌝ }
+    ensures { λ r. ⌜ DecidesError (now (table .entry)) room flag value id code (now (p .entry)) r ⌝ }
 {
     if !table::is_valid(table) {
         return Call::Refused(28);
@@ -216,7 +199,7 @@ pub fn decide_error(
     if 255 < p.len() {
         return Call::Refused(26);
     }
-    let refusal = length_refusal(sending::coded_length(p.len()), room);
+    let refusal = length_refusal(sending::facility_length(p.len()), room);
     if refusal != 0 {
         return Call::Refused(refusal);
     }
@@ -232,9 +215,7 @@ pub fn decide_error(
 }
 
 pub fn decide_release(table: &[u8], room: usize, flag: u8, value: u8) -> Call
-    ensures decides { λ r. ⌜ callSeen (λ k o. release (sentFirst flag value)) r ≡ sendRelease (now (table .entry)) room flag value ⌝ }
-    ensures within { λ r. ⌜ CallWithin (now (table .entry)) room flag value (λ k o. release (sentFirst flag value)) r ⌝ }
-    ensures names { λ r. ⌜ CallNames (λ k. 0) r ⌝ }
+    ensures { λ r. ⌜ DecidesRelease (now (table .entry)) room flag value r ⌝ }
 {
     if !table::is_valid(table) {
         return Call::Refused(28);

@@ -15,7 +15,7 @@ use Rattle.octets.proofs.ReaderLaws.{sound-inj, not-sound, through, passed, emp
 use Rattle.elements.specs.Element.{refusedTag, lengthOf, Element, element, shortest, written, row, unreadable}
 use Rattle.elements.proofs.ElementLaws.{length-local, element-local}
 use Rattle.codes.specs.Ids.{idOf}
-use Rattle.places.specs.Places.{misplaced, octetIn, single, parameter, Called, called, Coded, coded}
+use Rattle.places.specs.Places.{misplaced, octetIn, single, parameter, CalledPlaces, called, Coded, coded}
 use Rattle.parameters.specs.Parameter.{Text, holding, ussd}
 use Rattle.parameters.proofs.ParameterLaws.{ussd-more}
 use Rattle.components.specs.Component.{Component, invoke, result, error, reject, parameterOf, invokeTag, resultTag, rejectTag, invokeOf, resultOf, errorOf, rejectOf}

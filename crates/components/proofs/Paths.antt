@@ -13,11 +13,11 @@ use lib.Dec.{leb, eqb}
 use borrow.Author.Tests.{eq-eqb, ne-eqb}
 use Rattle.octets.specs.Part.{between}
 use Rattle.octets.specs.Reader.{fault, sound, took, isEmpty}
-use Rattle.octets.proofs.PartLaws.{length-between, getD-between, to-end}
+use Rattle.octets.proofs.PartLaws.{length-between, getD-between, to-end, none-between, rest-part}
 use Rattle.elements.specs.Element.{Element, element}
 use Rattle.codes.specs.Ids.{idOf}
 use Rattle.codes.specs.Problems.{problemTag}
-use Rattle.places.specs.Places.{misplaced, single, parameter, Called, called, Coded, coded, rejected}
+use Rattle.places.specs.Places.{misplaced, single, parameter, CalledPlaces, called, Coded, coded, rejected}
 use Rattle.places.specs.Seen.{last}
 use Rattle.places.proofs.Left.{nothing-left, something-left, left-none, left-some, last-is, last-end}
 use Rattle.components.specs.Component.{Component, invoke, result, error, reject, parameterOf, invokeTag, rejectTag, invokeOf, resultOf, errorOf, rejectOf}
@@ -25,7 +25,7 @@ use mathlib.Core.Logic.{⊎-elim}
 use types.Run.{OneOf}
 use denote.Enum.Declared.{tagOf}
 use Rattle.components.proofs.facility.Reading.{the-type}
-use Rattle.components.specs.Facility.{parameterIn, Finding, empty, shows, general, leftOver, faultyReject, afterTag, component, inside, facility}
+use Rattle.components.specs.Facility.{parameterIn, Finding, empty, shows, general, leftOver, faultyReject, afterTag, component, inside, facility, parameterStart}
 use Rattle.components.specs.Seen.{shownSeen, parameterLength, readingSeen, ReadingWithin, outerFault}
 use Rattle.components.specs.declared.shown.Shown.{Shown}
 use Rattle.components.specs.declared.shown.Shown.the-variants.{Invoke, Result, Error, Reject}
@@ -36,7 +36,7 @@ unfolding invokeOf
 invoke-none s i n e = rw (← e)
 
 -- an operation with its linked id, and what is left behind it; i is the id as the code holds it
-module _ (s : List ℕ) (c : Called) (e : ℕ) (q : took c (drop e s) ≡ called s) (d : ℤ) where
+module _ (s : List ℕ) (c : CalledPlaces) (e : ℕ) (q : took c (drop e s) ≡ called s) (d : ℤ) where
   pub invoke-fault : (n : ℕ) → fault n ≡ parameter (drop e s) → fault n ≡ invokeOf d s
   unfolding invokeOf
   invoke-fault n z = rw (← q, ← z)
@@ -202,3 +202,14 @@ parameter-shown (Invoke id linked operation n) s = refl
 parameter-shown (Result id operation n) s = refl
 parameter-shown (Error id code n) s = refl
 parameter-shown (Reject id tag problem) s = rw sub-zero (drop-length s)
+
+-- the parameter's octets and its place, where there is none
+pub no-parameter : (s : List ℕ) → [] ≡ parameterIn (facility s) → (between (length s) (length s) s ≡ parameterIn (facility s)) × (length s ≡ parameterStart s)
+no-parameter s e = (none-between (length s) (length s) s (omega arith) ∙ e, rw (← e, sub-zero))
+
+-- and where it is the last n octets
+pub last-parameter : (s : List ℕ) (n : ℕ) → n ≤ length s → last n s ≡ parameterIn (facility s)
+    → (between (length s - n) (length s) s ≡ parameterIn (facility s)) × (length s - n ≡ parameterStart s)
+last-parameter s n l e =
+    let m : length (last n s) ≡ n = rw (length-drop (length s - n) s) (omega arith) in
+    (rest-part (length s - n) s ∙ e, rw (← e, m))

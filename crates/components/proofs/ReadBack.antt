@@ -18,10 +18,10 @@ use Rattle.elements.proofs.ElementLaws.{written-reads-back}
 use Rattle.codes.specs.Ids.{idOf, octetOf}
 use Rattle.codes.specs.Problems.{problemTag}
 use Rattle.codes.proofs.IdLaws.{id-back}
-use Rattle.places.specs.Places.{single, parameter, Called, called, Coded, coded, rejected}
+use Rattle.places.specs.Places.{single, parameter, CalledPlaces, called, Coded, coded, rejected}
 use Rattle.components.specs.Component.{Component, invoke, result, error, reject, invokeTag, resultTag, errorTag, rejectTag, invokeOf, resultOf, errorOf, rejectOf}
 use Rattle.components.specs.Facility.{Finding, shows, afterTag, component, inside, facility}
-use Rattle.components.specs.Written.{place, linkedPlace, resultPlace, rejectPlace, contents, tagOf, octets, answer, IsParameter, IsSomeId, HoldsResult, Writable}
+use Rattle.components.specs.Written.{octetPlace, linkedPlace, resultPlace, rejectPlace, contents, tagOf, componentOctets, answer, IsParameter, IsSomeId, HoldsResult, Writable}
 
 -- an element written alone
 pub alone-back : (tag : ℕ) (c : List ℕ) → refusedTag tag ≡ false → element (written tag c) ≡ took (record { tag = tag; contents = c }) []
@@ -36,7 +36,7 @@ pub single-back : (x : ℕ) (r : List ℕ) → single 0x02 (0x02 ∷ 0x01 ∷ x 
 unfolding single
 single-back x r = rw (place-back 0x02 x r refl)
 
-called-back : (linked : Option ℤ) (o : ℕ) (p : List ℕ) → IsSomeId linked → called (linkedPlace linked ++ place 0x02 o ++ p) ≡ took (record { linked = linked; operation = o }) p
+called-back : (linked : Option ℤ) (o : ℕ) (p : List ℕ) → IsSomeId linked → called (linkedPlace linked ++ octetPlace 0x02 o ++ p) ≡ took (record { linked = linked; operation = o }) p
 unfolding called
 called-back none o p h = rw (place-back 0x02 o p refl)
 called-back (some l) o p h = rw (place-back 0x80 (octetOf l) (0x02 ∷ 0x01 ∷ o ∷ p) refl, single-back o p, id-back h)
@@ -50,14 +50,14 @@ unfolding rejected shortest
 rejected-back none r h = rw (written-reads-back 0x05 [] r refl)
 rejected-back (some i) r h = rw (place-back 0x02 (octetOf i) r refl, id-back h)
 
-reject-back : (id : Option ℤ) (tag problem : ℕ) → IsSomeId id → problemTag tag ≡ true → refusedTag tag ≡ false → rejectOf (rejectPlace id ++ place tag problem) ≡ sound (reject id tag problem)
+reject-back : (id : Option ℤ) (tag problem : ℕ) → IsSomeId id → problemTag tag ≡ true → refusedTag tag ≡ false → rejectOf (rejectPlace id ++ octetPlace tag problem) ≡ sound (reject id tag problem)
 unfolding rejectOf
-reject-back id tag problem h k n = rw (rejected-back id (place tag problem) h, place-back tag problem [] n, k)
+reject-back id tag problem h k n = rw (rejected-back id (octetPlace tag problem) h, place-back tag problem [] n, k)
 
 result-back : (id : ℤ) (operation : Option ℕ) (p : List ℕ) → HoldsResult operation p → resultOf id (resultPlace operation p) ≡ sound (result id operation p)
 unfolding resultOf
 result-back id none p h = rw h
-result-back id (some o) p h = rw (alone-back 0x30 (place 0x02 o ++ p) refl, coded-back o p h)
+result-back id (some o) p h = rw (alone-back 0x30 (octetPlace 0x02 o ++ p) refl, coded-back o p h)
 
 -- a Facility value that is one element
 pub facility-is : (tag : ℕ) (s c : List ℕ) → leb invokeTag tag && leb tag rejectTag ≡ true → element (tag ∷ s) ≡ took (record { tag = tag; contents = c }) [] → facility (tag ∷ s) ≡ inside tag c
@@ -80,12 +80,12 @@ problem-tag tag h =
     rw (ne-eqb tag 0 (λ z. omega arith), ne-eqb (tag % 32) 31 (λ z. omega arith))
 
 -- what is written for a component reads back as that component
-pub read-back : (c : Component) → Writable c → facility (octets c) ≡ shows c
+pub read-back : (c : Component) → Writable c → facility (componentOctets c) ≡ shows c
 unfolding contents component afterTag invokeOf errorOf
 read-back (invoke id linked operation p) h =
     facility-written invokeTag (contents (invoke id linked operation p)) refl refl
     ∙ inside-is invokeTag (contents (invoke id linked operation p)) (invoke id linked operation p)
-    (rw (single-back (octetOf id) (linkedPlace linked ++ place 0x02 operation ++ p), called-back linked operation p (h .1 .0), h .1 .1, id-back (h .0)))
+    (rw (single-back (octetOf id) (linkedPlace linked ++ octetPlace 0x02 operation ++ p), called-back linked operation p (h .1 .0), h .1 .1, id-back (h .0)))
 read-back (result id operation p) h =
     facility-written resultTag (contents (result id operation p)) refl refl
     ∙ inside-is resultTag (contents (result id operation p)) (result id operation p)

@@ -1,9 +1,9 @@
 -- 01, step 5: what a Facility value says, read apart from the table.
-use Prim.Native.Nat.{ℕ}
+use Prim.Native.Nat.{ℕ, _-_}
 use mathlib.Core.List.{List, []}
 use mathlib.Core.Bool.{Bool, cond, _&&_}
 use mathlib.Core.Option.{Option, none, some}
-use lib.ListN.{getD}
+use lib.ListN.{length, getD}
 use lib.IntN.{ℤ}
 use lib.Dec.{leb, eqb}
 use Rattle.octets.specs.Reader.{Answer, fault, sound, Taken, andThen, isEmpty}
@@ -67,3 +67,7 @@ parameterIn (shows c) = parameterOf c
 parameterIn (general problem id) = []
 parameterIn leftOver = []
 parameterIn faultyReject = []
+
+-- "its promise says which part it is": the parameter stands last in its Facility value
+abbrev pub parameterStart : List ℕ → ℕ
+parameterStart s = length s - length (parameterIn (facility s))

@@ -1,4 +1,5 @@
 pub mod Component
+pub mod Shows
 pub mod Facility
 pub mod Written
 pub mod LaterEdition

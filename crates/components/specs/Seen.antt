@@ -1,5 +1,6 @@
--- What the code's answers say of the octets that were read. A parameter stands last, so it is told by its length.
+-- What the code's answers say of the octets that were read, and what is promised of them. A parameter stands last, so it is told by its length.
 use Prim.Native.Nat.{ℕ, _≤_}
+use mathlib.Core.Path.{_≡_}
 use mathlib.Core.List.{List}
 use mathlib.Core.Bool.{cond}
 use mathlib.Core.Option.{Option, none, some}
@@ -53,6 +54,10 @@ abbrev pub KindWithin : List ℕ → Kind → Type 0
 KindWithin s (Kind.Fault n) = Unit {0}
 KindWithin s (Kind.Is shown) = parameterLength shown ≤ length s
 
+-- the definition's component or fault
+abbrev pub ReadsKind : Answer Component → List ℕ → Kind → Type 0
+ReadsKind definition s kind = (kindSeen s kind ≡ definition) × KindWithin s kind
+
 abbrev pub readingSeen : List ℕ → Reading → Finding
 readingSeen s Reading.Empty = empty
 readingSeen s (Reading.Shows shown) = shows (shownSeen s shown)
@@ -66,6 +71,10 @@ ReadingWithin s (Reading.Shows shown) = parameterLength shown ≤ length s
 ReadingWithin s (Reading.General problem id) = Unit {0}
 ReadingWithin s Reading.LeftOver = Unit {0}
 ReadingWithin s Reading.FaultyReject = Unit {0}
+
+-- the definition's finding
+abbrev pub Reads : Finding → List ℕ → Reading → Type 0
+Reads definition s reading = (readingSeen s reading ≡ definition) × ReadingWithin s reading
 
 -- the answer where the outer length can't be read
 abbrev pub outerFault : ℕ → Reading

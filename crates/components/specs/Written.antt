@@ -17,28 +17,28 @@ use Rattle.places.specs.Places.{parameter}
 use Rattle.components.specs.Component.{Component, invoke, result, error, reject, invokeTag, resultTag, errorTag, rejectTag}
 
 -- a place of one octet
-abbrev pub place : ℕ → ℕ → List ℕ
-place tag octet = tag ∷ 0x01 ∷ octet ∷ []
+abbrev pub octetPlace : ℕ → ℕ → List ℕ
+octetPlace tag octet = tag ∷ 0x01 ∷ octet ∷ []
 
 abbrev pub linkedPlace : Option ℤ → List ℕ
 linkedPlace none = []
-linkedPlace (some id) = place 0x80 (octetOf id)
+linkedPlace (some id) = octetPlace 0x80 (octetOf id)
 
 -- "Without a parameter we write no 30": an absent operation has no 30 to stand in
 abbrev pub resultPlace : Option ℕ → List ℕ → List ℕ
 resultPlace none p = []
-resultPlace (some operation) p = written 0x30 (place 0x02 operation ++ p)
+resultPlace (some operation) p = written 0x30 (octetPlace 0x02 operation ++ p)
 
 -- "the invoke id if it was read, else 05 00"
 abbrev pub rejectPlace : Option ℤ → List ℕ
 rejectPlace none = 0x05 ∷ 0x00 ∷ []
-rejectPlace (some id) = place 0x02 (octetOf id)
+rejectPlace (some id) = octetPlace 0x02 (octetOf id)
 
 unfoldable pub contents : Component → List ℕ
-contents (invoke id linked operation p) = place 0x02 (octetOf id) ++ linkedPlace linked ++ place 0x02 operation ++ p
-contents (result id operation p) = place 0x02 (octetOf id) ++ resultPlace operation p
-contents (error id code p) = place 0x02 (octetOf id) ++ place 0x02 code ++ p
-contents (reject id tag problem) = rejectPlace id ++ place tag problem
+contents (invoke id linked operation p) = octetPlace 0x02 (octetOf id) ++ linkedPlace linked ++ octetPlace 0x02 operation ++ p
+contents (result id operation p) = octetPlace 0x02 (octetOf id) ++ resultPlace operation p
+contents (error id code p) = octetPlace 0x02 (octetOf id) ++ octetPlace 0x02 code ++ p
+contents (reject id tag problem) = rejectPlace id ++ octetPlace tag problem
 
 abbrev pub tagOf : Component → ℕ
 tagOf (invoke id linked operation p) = invokeTag
@@ -47,8 +47,8 @@ tagOf (error id code p) = errorTag
 tagOf (reject id tag problem) = rejectTag
 
 -- the Facility value that holds the component
-abbrev pub octets : Component → List ℕ
-octets c = written (tagOf c) (contents c)
+abbrev pub componentOctets : Component → List ℕ
+componentOctets c = written (tagOf c) (contents c)
 
 -- the Return result that answers an operation: "Without a parameter we write no 30"
 unfoldable pub answer : ℤ → ℕ → List ℕ → Component

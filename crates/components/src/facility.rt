@@ -5,9 +5,9 @@ use elements::Found;
 use places::Id;
 use places::Single;
 ghost use mathlib.Core.Path.{_≡_};
-ghost use Rattle.codes.specs.Ids.{idOf};
-ghost use Rattle.components.specs.Facility.{facility, inside, afterTag, parameterIn};
-ghost use Rattle.components.specs.Seen.{kindSeen, KindWithin, readingSeen, ReadingWithin, outerFault};
+ghost use Rattle.octets.specs.Part.{placeAt};
+ghost use Rattle.components.specs.Facility.{facility, inside, afterTag, parameterIn, parameterStart};
+ghost use Rattle.components.specs.Seen.{ReadsKind, Reads, outerFault};
 
 pub enum Reading {
     Empty,
@@ -18,9 +18,8 @@ pub enum Reading {
 }
 
 // What follows an id, by the outer tag.
-fn read_after_id(s: &[u8], tag: u8, id: u8) -> Kind
-    ensures reads { λ r. ⌜ kindSeen (now (s .entry)) r ≡ afterTag tag (idOf id) (now (s .entry)) ⌝ }
-    ensures within { λ r. ⌜ KindWithin (now (s .entry)) r ⌝ }
+fn read_after_id(s: &[u8], tag: u8, id: i8) -> Kind
+    ensures { λ r. ⌜ ReadsKind (afterTag tag id (now (s .entry))) (now (s .entry)) r ⌝ }
 {
     if tag == 0xA1 {
         return super::kinds::read_invoke(s, id);
@@ -33,8 +32,7 @@ fn read_after_id(s: &[u8], tag: u8, id: u8) -> Kind
 
 // The contents under an outer tag.
 fn read_inside(s: &[u8], tag: u8) -> Reading
-    ensures reads { λ r. ⌜ readingSeen (now (s .entry)) r ≡ inside tag (now (s .entry)) ⌝ }
-    ensures within { λ r. ⌜ ReadingWithin (now (s .entry)) r ⌝ }
+    ensures { λ r. ⌜ Reads (inside tag (now (s .entry))) (now (s .entry)) r ⌝ }
 {
     if tag == 0xA4 {
         let Kind::Is(shown) = super::kinds::read_reject(s) else {
@@ -49,11 +47,12 @@ fn read_inside(s: &[u8], tag: u8) -> Reading
             id: Id::Absent,
         };
     };
-    let kind = read_after_id(&s[end..], tag, octet);
+    let id = codes::ids::id_of(octet);
+    let kind = read_after_id(&s[end..], tag, id);
     let Kind::Is(shown) = kind else {
         return Reading::General {
             problem: super::kinds::kind_fault(kind),
-            id: Id::Is(codes::ids::id_of(octet)),
+            id: Id::Is(id),
         };
     };
     Reading::Shows(shown)
@@ -74,8 +73,7 @@ fn outer_fault(tag: u8) -> Reading
 
 // What a Facility value says.
 pub fn read_facility(s: &[u8]) -> Reading
-    ensures reads { λ r. ⌜ readingSeen (now (s .entry)) r ≡ facility (now (s .entry)) ⌝ }
-    ensures within { λ r. ⌜ ReadingWithin (now (s .entry)) r ⌝ }
+    ensures { λ r. ⌜ Reads (facility (now (s .entry))) (now (s .entry)) r ⌝ }
 {
     if s.len() == 0 {
         return Reading::Empty;
@@ -96,12 +94,13 @@ pub fn read_facility(s: &[u8]) -> Reading
     read_inside(&s[start..], tag)
 }
 
-// The parameter of the component that a Facility value shows; no octets where there is none.
+// The parameter of the component that a Facility value shows: its last octets, none of them where there is no parameter.
 pub fn parameter_of(s: &[u8]) -> &[u8]
-    ensures { λ r. ⌜ now r ≡ parameterIn (facility (now (s .entry))) ⌝ }
+    ensures octets { λ r. ⌜ now r ≡ parameterIn (facility (now (s .entry))) ⌝ }
+    ensures place { λ r. ⌜ r .ptr ≡ placeAt (parameterStart (now (s .entry))) (s .entry .ptr) ⌝ }
 {
     let Reading::Shows(shown) = read_facility(s) else {
-        return &s[..0];
+        return &s[s.len()..];
     };
     let n = super::shown::parameter_length(shown);
     &s[s.len() - n..]

@@ -7,9 +7,8 @@ use places::Code;
 use places::Last;
 use places::Rejected;
 ghost use mathlib.Core.Path.{_≡_};
-ghost use Rattle.codes.specs.Ids.{idOf};
 ghost use Rattle.components.specs.Component.{invokeOf, resultOf, errorOf, rejectOf};
-ghost use Rattle.components.specs.Seen.{kindSeen, KindWithin, kindFault};
+ghost use Rattle.components.specs.Seen.{ReadsKind, kindFault};
 
 pub enum Kind {
     Fault(u8),
@@ -26,9 +25,8 @@ pub fn kind_fault(kind: Kind) -> u8
 }
 
 // What follows the id of an Invoke.
-pub fn read_invoke(s: &[u8], id: u8) -> Kind
-    ensures reads { λ r. ⌜ kindSeen (now (s .entry)) r ≡ invokeOf (idOf id) (now (s .entry)) ⌝ }
-    ensures within { λ r. ⌜ KindWithin (now (s .entry)) r ⌝ }
+pub fn read_invoke(s: &[u8], id: i8) -> Kind
+    ensures { λ r. ⌜ ReadsKind (invokeOf id (now (s .entry))) (now (s .entry)) r ⌝ }
 {
     let calls = places::read_calls(s);
     let Calls::Is {
@@ -44,7 +42,7 @@ pub fn read_invoke(s: &[u8], id: u8) -> Kind
         return Kind::Fault(places::last_fault(last));
     };
     Kind::Is(Shown::Invoke {
-        id: codes::ids::id_of(id),
+        id: id,
         linked: linked,
         operation: operation,
         parameter: s.len() - end,
@@ -52,29 +50,27 @@ pub fn read_invoke(s: &[u8], id: u8) -> Kind
 }
 
 // What follows the id of a Return error.
-pub fn read_error(s: &[u8], id: u8) -> Kind
-    ensures reads { λ r. ⌜ kindSeen (now (s .entry)) r ≡ errorOf (idOf id) (now (s .entry)) ⌝ }
-    ensures within { λ r. ⌜ KindWithin (now (s .entry)) r ⌝ }
+pub fn read_error(s: &[u8], id: i8) -> Kind
+    ensures { λ r. ⌜ ReadsKind (errorOf id (now (s .entry))) (now (s .entry)) r ⌝ }
 {
     let code = places::read_coded(s);
     let Code::Is { octet, parameter } = code else {
         return Kind::Fault(places::code_fault(code));
     };
     Kind::Is(Shown::Error {
-        id: codes::ids::id_of(id),
+        id: id,
         code: octet,
         parameter: parameter,
     })
 }
 
 // What follows the id of a Return result: nothing, or the 30 and nothing behind it.
-pub fn read_result(s: &[u8], id: u8) -> Kind
-    ensures reads { λ r. ⌜ kindSeen (now (s .entry)) r ≡ resultOf (idOf id) (now (s .entry)) ⌝ }
-    ensures within { λ r. ⌜ KindWithin (now (s .entry)) r ⌝ }
+pub fn read_result(s: &[u8], id: i8) -> Kind
+    ensures { λ r. ⌜ ReadsKind (resultOf id (now (s .entry))) (now (s .entry)) r ⌝ }
 {
     if s.len() == 0 {
         return Kind::Is(Shown::Result {
-            id: codes::ids::id_of(id),
+            id: id,
             operation: Operation::Absent,
             parameter: 0,
         });
@@ -94,7 +90,7 @@ pub fn read_result(s: &[u8], id: u8) -> Kind
         return Kind::Fault(1);
     }
     Kind::Is(Shown::Result {
-        id: codes::ids::id_of(id),
+        id: id,
         operation: Operation::Is(octet),
         parameter: parameter,
     })
@@ -102,8 +98,7 @@ pub fn read_result(s: &[u8], id: u8) -> Kind
 
 // The contents of a Reject.
 pub fn read_reject(s: &[u8]) -> Kind
-    ensures reads { λ r. ⌜ kindSeen (now (s .entry)) r ≡ rejectOf (now (s .entry)) ⌝ }
-    ensures within { λ r. ⌜ KindWithin (now (s .entry)) r ⌝ }
+    ensures { λ r. ⌜ ReadsKind (rejectOf (now (s .entry))) (now (s .entry)) r ⌝ }
 {
     let rejected = places::read_rejected(s);
     let Rejected::Is { id, end } = rejected else {

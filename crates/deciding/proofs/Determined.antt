@@ -15,10 +15,11 @@ use Rattle.components.specs.Seen.{shownSeen, TextTold, parameterLength}
 use Rattle.components.specs.declared.shown.Shown.{Shown}
 use Rattle.components.specs.declared.facility.Reading.{Reading}
 use Rattle.components.proofs.Determined.{reading-determined, text-determined}
-use Rattle.messages.proofs.Determined.{part-determined}
+use Rattle.octets.proofs.Determined.{found-determined}
 use Rattle.table.specs.Table.{Entry}
 use Rattle.table.proofs.Determined.{slot-determined}
-use Rattle.deciding.specs.Decision.{Shows, withReject, onReject, released, taken}
+use Rattle.components.specs.Shows.{ShownComponent, Shows}
+use Rattle.deciding.specs.Decision.{withReject, onReject, released, taken}
 use Rattle.deciding.specs.Seen.{toldSeen, ToldWithin, actSeen, ActWithin, decisionSeen, DecisionWithin}
 use Rattle.deciding.specs.declared.Told.{Told}
 use Rattle.deciding.specs.declared.Act.{Act}
@@ -37,7 +38,7 @@ shows-inj e = cc
 shown-determined : (s : List ℕ) (r q : Shown) → parameterLength r ≤ length s → parameterLength q ≤ length s → shownSeen s r ≡ shownSeen s q → r ≡ q
 shown-determined s r q a b e = shows-inj (reading-determined s (Reading.Shows r) (Reading.Shows q) a b (ap shows e))
 
-some-inj : {a b : Taken Component} → some a ≡ some b → a ≡ b
+some-inj : {a b : ShownComponent} → some a ≡ some b → a ≡ b
 some-inj e = cc
 
 told-determined : (s : List ℕ) (r q : Told) → ToldWithin s r → ToldWithin s q → toldSeen s r ≡ toldSeen s q → r ≡ q
@@ -46,8 +47,8 @@ told-determined s Told.Nothing (Told.Is q j u) a b e = cc
 told-determined s (Told.Is r i t) Told.Nothing a b e = cc
 told-determined s (Told.Is r i t) (Told.Is q j u) a b e =
     let g = some-inj e in
-    let x : i ≡ j = omega (arith, simp length-drop at (ap (λ (h : Taken Component). length (h .rest)) g)) in
-    let f : shownSeen (take j s) r ≡ shownSeen (take j s) q = rw x at (ap (λ (h : Taken Component). h .value) g) in
+    let x : i ≡ j = omega (arith, simp length-drop at (ap (λ (h : ShownComponent). length (h .behind)) g)) in
+    let f : shownSeen (take j s) r ≡ shownSeen (take j s) q = rw x at (ap (λ (h : ShownComponent). h .component) g) in
     let k : length (take j s) ≡ j = rw (length-take j s) (omega arith) in
     let y = shown-determined (take j s) r q (omega arith) (omega arith) f in
     let z : TextTold (shownSeen (take j s) q) t = rw (sym f, sym x) (a .1) in
@@ -101,7 +102,7 @@ act-determined s x y (Act.Released p) (Act.WithReject j u m) h k e c d = (cc, cc
 act-determined s x y (Act.Released p) Act.OnReject h k e c d = (cc, cc)
 act-determined s x y (Act.Released p) (Act.Released o) h k e c d =
     let f = released-inj e in
-    (ap Act.Released (part-determined s p o h k (f .1)), told-determined s x y c d (f .0))
+    (ap Act.Released (found-determined s p o h k (f .1)), told-determined s x y c d (f .0))
 act-determined s x y (Act.Released p) (Act.Taken w) h k e c d = (cc, cc)
 act-determined s x y (Act.Taken z) (Act.Silent m) h k e c d = (cc, cc)
 act-determined s x y (Act.Taken z) (Act.WithCause m) h k e c d = (cc, cc)

@@ -4,12 +4,8 @@ use mathlib.Core.List.{List}
 use mathlib.Core.Option.{Option, none}
 use lib.IntN.{ℤ}
 use Rattle.octets.specs.Reader.{Taken}
-use Rattle.components.specs.Component.{Component}
+use Rattle.components.specs.Shows.{Shows}
 use Rattle.table.specs.Table.{Entry}
-
--- What is shown is a component with what stands behind its Facility value, so that its parts have places in the message.
-abbrev pub Shows : Type 0
-Shows = Option (Taken Component)
 
 pub data Decision : Type 0 where
   -- "1 ignored", "6, 7 too long; other protocol", and the refusals 28 and 27

@@ -1,12 +1,13 @@
--- What the code's answers say of the octets behind the type. A component that is shown tells where its Facility value ends.
+-- What the code's answers say of the octets behind the type, and what is promised of them. A component that is shown tells where its Facility value ends.
 use Prim.Native.Nat.{ℕ, _≤_, _<_}
 use mathlib.Core.Path.{_≡_}
 use mathlib.Core.List.{List}
-use mathlib.Core.Bool.{Bool, true, false, cond}
+use mathlib.Core.Bool.{Bool, true, false, cond, not}
 use mathlib.Core.Option.{Option, none, some}
-use lib.ListN.{length, getD, take, drop}
+use lib.ListN.{length, take, drop}
 use lib.Dec.{eqb}
 use Rattle.octets.specs.Part.{between}
+use Rattle.octets.specs.Unless.{unless}
 use Rattle.octets.specs.Reader.{Taken}
 use Rattle.places.specs.Seen.{idSeen}
 use Rattle.components.specs.Component.{Component}
@@ -14,12 +15,13 @@ use Rattle.components.specs.Seen.{shownSeen, TextTold, parameterLength}
 use Rattle.components.specs.Facility.{facility}
 use Rattle.messages.specs.Layout.{value, flag}
 use Rattle.messages.specs.Scan.{firstTaken}
-use Rattle.messages.specs.Seen.{partSeen, PartWithin}
+use Rattle.octets.specs.Seen.{partFound, PartWithin}
 use Rattle.table.specs.Table.{Entry, imageLength, entryAt}
 use Rattle.table.specs.Seen.{slotSeen}
-use Rattle.deciding.specs.Decision.{Shows, shownBy, silent, withCause, withReject, onReject, released, taken}
+use Rattle.components.specs.Shows.{Shows}
+use Rattle.deciding.specs.Decision.{shownBy, silent, withCause, withReject, onReject, released, taken}
 use Rattle.deciding.specs.Decision as spec
-use Rattle.deciding.specs.Steps.{stepFive, exceptInvoke, stepTwo, firstOf, entryOf}
+use Rattle.deciding.specs.Steps.{firstOctet, typeOctet, pickedEntry, notOpen, stepThree, fiveAndSix, exceptInvoke, byType}
 use Rattle.deciding.specs.declared.Told.{Told}
 use Rattle.deciding.specs.declared.Act.{Act}
 use Rattle.deciding.specs.declared.Course.{Course}
@@ -27,7 +29,7 @@ use Rattle.deciding.specs.declared.Decision.{Decision}
 
 abbrev pub toldSeen : List ℕ → Told → Shows
 toldSeen s Told.Nothing = none
-toldSeen s (Told.Is shown end text) = some (record { value = shownSeen (take end s) shown; rest = drop end s })
+toldSeen s (Told.Is shown end text) = some (record { component = shownSeen (take end s) shown; behind = drop end s })
 
 abbrev pub ToldWithin : List ℕ → Told → Type 0
 ToldWithin s Told.Nothing = Unit {0}
@@ -38,7 +40,7 @@ actSeen s (Act.Silent code) shown = silent code
 actSeen s (Act.WithCause number) shown = withCause number
 actSeen s (Act.WithReject id tag number) shown = withReject (idSeen id) tag number
 actSeen s Act.OnReject shown = onReject shown
-actSeen s (Act.Released cause) shown = released shown (partSeen s cause)
+actSeen s (Act.Released cause) shown = released shown (partFound s cause)
 actSeen s (Act.Taken slot) shown = taken (slotSeen slot) shown
 
 abbrev pub decisionSeen : List ℕ → Decision → spec.Decision
@@ -71,7 +73,7 @@ CourseSeen e s Course.Ignored d = EndsAs s (Act.Silent 1) d
 CourseSeen e s (Course.WithCause number) d = EndsAs s (Act.WithCause number) d
 CourseSeen e s (Course.Released cause) d = EndsAs s (Act.Released cause) d
 CourseSeen e s (Course.Weighs release start end) d =
-    ((start ≤ end) × (end ≤ length s)) × (onWeighed release s (stepFive e (facility (between start end s)) (drop end s)) ≡ d)
+    ((start ≤ end) × (end ≤ length s)) × (onWeighed release s (fiveAndSix e (facility (between start end s)) (drop end s)) ≡ d)
 
 abbrev pub showsNothing : Act → Decision
 showsNothing act = record { act = act; told = Told.Nothing }
@@ -88,12 +90,22 @@ actsNot (Act.Taken slot) = false
 abbrev pub isSilent : Decision → Bool
 isSilent d = actsNot (d .act)
 
--- step 2 of a whole message, as it stands in `decide`
+-- steps 2 to 6 of a message whose value is not 7
+unfoldable pub fromType : Entry → ℕ → ℕ → List ℕ → spec.Decision
+fromType e flag type s =
+    cond (e .isOpen) (stepThree e type (byType e type s))
+    (notOpen flag type (stepThree e type (byType e type s)))
+
+-- steps 2 to 6 of a whole message
 abbrev pub fromEntry : List ℕ → List ℕ → spec.Decision
 fromEntry table m =
-    cond (eqb (value (firstOf m)) 7) (silent 1)
-    (stepTwo (entryAt table (entryOf m)) (flag (firstOf m)) (getD m 1 0) (drop 2 m))
+    unless (not (eqb (value (firstOctet m)) 7)) (silent 1)
+    (fromType (entryAt table (pickedEntry m)) (flag (firstOctet m)) (typeOctet m) (drop 2 m))
 
 -- whoever acts otherwise finds an image of full length, room for any reply, and one of the fourteen entries
 abbrev pub Ready : List ℕ → List ℕ → ℕ → Type 0
-Ready table m room = (length table ≡ imageLength) × ((12 ≤ room) × ((2 ≤ length m) × (value (firstOf m) < 7)))
+Ready table m room = (length table ≡ imageLength) × ((12 ≤ room) × ((2 ≤ length m) × (value (firstOctet m) < 7)))
+
+-- a decision that says what the definition does
+abbrev pub Decides : spec.Decision → List ℕ → Decision → Type 0
+Decides definition s d = (decisionSeen s d ≡ definition) × DecisionWithin s d

@@ -1,28 +1,96 @@
--- 01, "Verdicts on a received message, in order". The steps stand from the last to the first, as each is used by the one before.
+-- 01, "Verdicts on a received message, in order". Each step is a refusal after the other, and then what comes next; `decide`
+-- puts the steps in a row.
 use Prim.Native.Nat.{ℕ}
 use mathlib.Core.List.{List}
-use mathlib.Core.Bool.{Bool, true, false, cond}
+use mathlib.Core.Bool.{Bool, true, false, cond, not, _&&_, _||_}
 use mathlib.Core.Option.{Option, none, some}
 use lib.IntN.{ℤ}
 use lib.ListN.{length, getD, drop}
-use lib.Dec.{ltb, eqb}
+use lib.Dec.{leb, eqb}
 use Rattle.octets.specs.Reader.{Answer, fault, sound, Taken}
+use Rattle.octets.specs.Unless.{unless}
 use Rattle.codes.specs.Problems.{general as generalTag}
 use Rattle.components.specs.Component.{Component, invoke, result, error, reject}
 use Rattle.components.specs.Facility.{Finding, empty, shows, general, leftOver, faultyReject, facility}
-use Rattle.messages.specs.Layout.{discriminator, value, flag, sentFirst, facilityType, registerType}
-use Rattle.messages.specs.Types.{typeOf}
+use Rattle.messages.specs.Layout.{discriminator, value, flag, sentFirst, releaseType, facilityType, registerType}
+use Rattle.messages.specs.Types.{isKnown}
 use Rattle.messages.specs.Scan.{required, firstTaken}
-use Rattle.messages.specs.declared.layout.MessageType.{MessageType}
-use Rattle.messages.specs.declared.layout.MessageType.the-variants.{ReleaseComplete, Facility, Register, Unknown}
-use Rattle.table.specs.Table.{Entry, place, entryAt, valid}
+use Rattle.table.specs.Table.{Entry, entryNumber, entryAt, valid}
 use Rattle.judging.specs.StepSix.{Judged, problem, accepted, judgeInvoke, judgeResult, judgeError}
-use Rattle.deciding.specs.Decision.{Shows, Decision, silent, withCause, withReject, onReject, released, taken, shownBy}
+use Rattle.components.specs.Shows.{ShownComponent, Shows}
+use Rattle.deciding.specs.Decision.{Decision, silent, withCause, withReject, onReject, released, taken, shownBy}
+
+abbrev pub firstOctet : List ℕ → ℕ
+firstOctet m = getD m 0 0
+
+abbrev pub typeOctet : List ℕ → ℕ
+typeOctet m = getD m 1 0
+
+-- "Flag and value pick the entry"; "What we send carries the opposite flag."
+unfoldable pub pickedEntry : List ℕ → ℕ
+pickedEntry m = entryNumber (flag (firstOctet m)) (value (firstOctet m))
+
+unfoldable pub replyFirst : List ℕ → ℕ
+replyFirst m = sentFirst (flag (firstOctet m)) (value (firstOctet m))
+
+-- "First 28, then 27 (reply buffer under 12 octets), then:"
+abbrev pub first : List ℕ → ℕ → Decision → Decision
+first table room next =
+    unless (valid table) (silent 28)
+    (unless (leb 12 room) (silent 27)
+    next)
+
+-- "1. Over 255 octets: verdict 6. Under 2: verdict 1. Discriminator not 11: verdict 7."
+abbrev pub stepOne : List ℕ → Decision → Decision
+stepOne m next =
+    unless (leb (length m) 255) (silent 6)
+    (unless (leb 2 (length m)) (silent 1)
+    (unless (eqb (discriminator (firstOctet m)) 11) (silent 7)
+    next))
+
+-- "Entry not open: RELEASE COMPLETE, or REGISTER with flag 1, verdict 1; FACILITY, cause 81 (002, 3.7.3)."
+abbrev pub notOpen : ℕ → ℕ → Decision → Decision
+notOpen flag type next =
+    unless (not (eqb type releaseType || (eqb type registerType && eqb flag 1))) (silent 1)
+    (unless (not (eqb type facilityType)) (withCause 81)
+    next)
+
+-- "2. Value 7: verdict 1. Entry not open: .."
+abbrev pub stepTwo : Entry → List ℕ → Decision → Decision
+stepTwo e m next =
+    unless (not (eqb (value (firstOctet m)) 7)) (silent 1)
+    (cond (e .isOpen) next (notOpen (flag (firstOctet m)) (typeOctet m) next))
+
+-- "3. Unknown type: cause 97. REGISTER on an open entry: cause 98."
+abbrev pub stepThree : Entry → ℕ → Decision → Decision
+stepThree e type next =
+    unless (isKnown type) (withCause 97)
+    (unless (not (eqb type registerType && e .isOpen)) (withCause 98)
+    next)
+
+-- "4. Mandatory part missing or cut, or the comprehension rule: cause 96." What comes next is given the Facility value and
+-- what stands behind it.
+abbrev pub stepFour : Answer (Taken (List ℕ)) → (List ℕ → List ℕ → Decision) → Decision
+stepFour (fault number) next = withCause number
+stepFour (sound g) next = next (g .value) (g .rest)
+
+-- the entry is open, where it wasn't
+abbrev pub opened : Entry → Entry
+opened e = record { isOpen = true; own = e .own; peer = e .peer }
+
+-- "5. An empty Facility value is taken with nothing shown. Otherwise: .." "Octets left after it: cause 29" "Under outer tag A4
+-- every fault but the cause 29 gives verdict 4." What comes next is given the component.
+abbrev pub stepFive : Entry → Finding → (Component → Decision) → Decision
+stepFive e empty next = taken (opened e) none
+stepFive e (shows c) next = next c
+stepFive e (general number id) next = withReject id generalTag number
+stepFive e leftOver next = withCause 29
+stepFive e faultyReject next = onReject none
 
 abbrev pub shown : Component → List ℕ → Shows
-shown c behind = some (record { value = c; rest = behind })
+shown c behind = some (record { component = c; behind = behind })
 
--- 6. A problem is told with the invoke's id.
+-- "6." A problem is told with the invoke's id.
 abbrev pub onJudged : Judged → ℤ → Component → List ℕ → Decision
 onJudged (problem tag number) id c behind = withReject (some id) tag number
 onJudged (accepted e) id c behind = taken e (shown c behind)
@@ -33,26 +101,12 @@ stepSix e (result id operation p) behind = onJudged (judgeResult e id operation 
 stepSix e (error id code p) behind = onJudged (judgeError e id code) id (error id code p) behind
 stepSix e (reject id tag number) behind = onReject (shown (reject id tag number) behind)
 
--- the entry is open, where it wasn't
-abbrev pub opened : Entry → Entry
-opened e = record { isOpen = true; own = e .own; peer = e .peer }
+-- steps 5 and 6, and 4 to 6
+unfoldable pub fiveAndSix : Entry → Finding → List ℕ → Decision
+fiveAndSix e found behind = stepFive e found (λ c. stepSix e c behind)
 
--- 5. "An empty Facility value is taken with nothing shown." "Octets left after it: cause 29" "Under outer tag A4 every
--- fault but the cause 29 gives verdict 4."
-unfoldable pub stepFive : Entry → Finding → List ℕ → Decision
-stepFive e empty behind = taken (opened e) none
-stepFive e (shows c) behind = stepSix e c behind
-stepFive e (general number id) behind = withReject id generalTag number
-stepFive e leftOver behind = withCause 29
-stepFive e faultyReject behind = onReject none
-
--- 4. "Mandatory part missing or cut, or the comprehension rule: cause 96."
-abbrev pub onRequired : Entry → Answer (Taken (List ℕ)) → Decision
-onRequired e (fault number) = withCause number
-onRequired e (sound g) = stepFive e (facility (g .value)) (g .rest)
-
-unfoldable pub stepFour : Entry → ℕ → List ℕ → Decision
-stepFour e type s = onRequired e (required type s)
+unfoldable pub fourToSix : Entry → ℕ → List ℕ → Decision
+fourToSix e type s = stepFour (required type s) (λ v behind. fiveAndSix e (facility v) behind)
 
 -- "Steps 5 and 6 run for RELEASE COMPLETE too, always with verdict 5; on a fault, or an Invoke, nothing is shown."
 abbrev pub isInvoke : Component → Bool
@@ -63,46 +117,22 @@ isInvoke (reject id tag number) = false
 
 abbrev pub exceptInvoke : Shows → Shows
 exceptInvoke none = none
-exceptInvoke (some t) = cond (isInvoke (t .value)) none (some t)
+exceptInvoke (some t) = cond (isInvoke (t .component)) none (some t)
 
 abbrev pub inRelease : Entry → Option (Taken (List ℕ)) → Shows
 inRelease e none = none
-inRelease e (some t) = exceptInvoke (shownBy (stepFive e (facility (t .value)) (t .rest)))
+inRelease e (some t) = exceptInvoke (shownBy (fiveAndSix e (facility (t .value)) (t .rest)))
 
 unfoldable pub onRelease : Entry → List ℕ → Decision
 onRelease e s = released (inRelease e (firstTaken 0x1C s)) (firstTaken 0x08 s)
 
--- 2. "Entry not open: RELEASE COMPLETE, or REGISTER with flag 1, verdict 1; FACILITY, cause 81"
--- 3. "Unknown type: cause 97. REGISTER on an open entry: cause 98."
-abbrev pub byType : Entry → ℕ → MessageType → List ℕ → Decision
-byType e flag ReleaseComplete s = cond (e .isOpen) (onRelease e s) (silent 1)
-byType e flag Facility s = cond (e .isOpen) (stepFour e facilityType s) (withCause 81)
-byType e flag Register s = cond (e .isOpen) (withCause 98) (cond (eqb flag 1) (silent 1) (stepFour e registerType s))
-byType e flag Unknown s = withCause 97
+-- "RELEASE COMPLETE skips this": it has no step 4
+abbrev pub byType : Entry → ℕ → List ℕ → Decision
+byType e type s = cond (eqb type releaseType) (onRelease e s) (fourToSix e type s)
 
-unfoldable pub stepTwo : Entry → ℕ → ℕ → List ℕ → Decision
-stepTwo e flag type s = byType e flag (typeOf type) s
+-- the steps in a row
+abbrev pub steps : Entry → List ℕ → Decision
+steps e m = stepOne m (stepTwo e m (stepThree e (typeOctet m) (byType e (typeOctet m) (drop 2 m))))
 
--- "Flag and value pick the entry"; "What we send carries the opposite flag."
-abbrev pub firstOf : List ℕ → ℕ
-firstOf m = getD m 0 0
-
-unfoldable pub entryOf : List ℕ → ℕ
-entryOf m = place (flag (firstOf m)) (value (firstOf m))
-
-unfoldable pub replyFirst : List ℕ → ℕ
-replyFirst m = sentFirst (flag (firstOf m)) (value (firstOf m))
-
--- "First 28, then 27 (reply buffer under 12 octets), then: 1. Over 255 octets: verdict 6. Under 2: verdict 1.
--- Discriminator not 11: verdict 7. 2. Value 7: verdict 1."
 unfoldable pub decide : List ℕ → List ℕ → ℕ → Decision
-decide table m room =
-    cond (valid table)
-    (cond (ltb room 12) (silent 27)
-    (cond (ltb 255 (length m)) (silent 6)
-    (cond (ltb (length m) 2) (silent 1)
-    (cond (eqb (discriminator (firstOf m)) 11)
-    (cond (eqb (value (firstOf m)) 7) (silent 1)
-    (stepTwo (entryAt table (entryOf m)) (flag (firstOf m)) (getD m 1 0) (drop 2 m)))
-    (silent 7)))))
-    (silent 28)
+decide table m room = first table room (steps (entryAt table (pickedEntry m)) m)

@@ -1,10 +1,9 @@
 // What a received message is found to be: the steps in order, and nothing written.
 use components::facility::Reading;
 use components::shown::Shown;
-use judging::Verdict;
-use messages::layout::Body;
+use judging::Judgement;
 use messages::layout::MessageType;
-use messages::scan::Part;
+use octets::MaybePart;
 use parameters::text::Ussd;
 use places::Id;
 use table::Slot;
@@ -17,12 +16,12 @@ ghost use Rattle.components.specs.Facility.{facility};
 ghost use Rattle.components.specs.Seen.{shownSeen, parameterLength};
 ghost use Rattle.messages.specs.Layout.{value};
 ghost use Rattle.messages.specs.Scan.{firstTaken};
-ghost use Rattle.table.specs.Table.{Entry, valid};
+ghost use Rattle.table.specs.Table.{Entry};
 ghost use Rattle.table.specs.Seen.{slotSeen};
-ghost use Rattle.judging.specs.Seen.{verdictSeen, VerdictText};
+ghost use Rattle.judging.specs.Seen.{judgementSeen, JudgementText};
 ghost use Rattle.deciding.specs.Decision.{released};
-ghost use Rattle.deciding.specs.Steps.{onJudged, stepSix, stepFive, stepFour, exceptInvoke, onRelease, stepTwo, firstOf, entryOf, replyFirst, decide};
-ghost use Rattle.deciding.specs.Seen.{toldSeen, ToldWithin, decisionSeen, DecisionWithin, CourseSeen, showsNothing, isSilent, fromEntry, Ready};
+ghost use Rattle.deciding.specs.Steps.{firstOctet, pickedEntry, replyFirst, onJudged, stepSix, fiveAndSix, fourToSix, exceptInvoke, onRelease, decide};
+ghost use Rattle.deciding.specs.Seen.{toldSeen, ToldWithin, Decides, CourseSeen, showsNothing, isSilent, fromType, fromEntry, Ready};
 
 // A component that is shown, where its Facility value ends, and the text that it carries.
 pub enum Told {
@@ -40,7 +39,7 @@ pub enum Act {
     WithCause(u8),
     WithReject { id: Id, tag: u8, number: u8 },
     OnReject,
-    Released(Part),
+    Released(MaybePart),
     Taken(Slot),
 }
 
@@ -61,20 +60,19 @@ fn untold(act: Act) -> Decision
 }
 
 // Step 6's answer.
-fn rule(s: &[u8], verdict: Verdict, id: i8, shown: Shown, end: usize) -> Decision
-    requires { ⌜ ((parameterLength shown ≤ end) × (end ≤ length (now s))) × VerdictText (shownSeen (take end (now s)) shown) verdict ⌝ }
-    ensures decides { λ r. ⌜ decisionSeen (now (s .entry)) r ≡ onJudged (verdictSeen verdict) id (shownSeen (take end (now (s .entry))) shown) (drop end (now (s .entry))) ⌝ }
-    ensures within { λ r. ⌜ DecisionWithin (now (s .entry)) r ⌝ }
+fn rule(s: &[u8], judgement: Judgement, id: i8, shown: Shown, end: usize) -> Decision
+    requires { ⌜ ((parameterLength shown ≤ end) × (end ≤ length (now s))) × JudgementText (shownSeen (take end (now s)) shown) judgement ⌝ }
+    ensures decides { λ r. ⌜ Decides (onJudged (judgementSeen judgement) id (shownSeen (take end (now (s .entry))) shown) (drop end (now (s .entry)))) (now (s .entry)) r ⌝ }
 {
-    match verdict {
-        Verdict::Problem { tag, number } => {
+    match judgement {
+        Judgement::Problem { tag, number } => {
             return untold(Act::WithReject {
                 id: Id::Is(id),
                 tag: tag,
                 number: number,
             });
         }
-        Verdict::Accepted { slot, text } => {
+        Judgement::Accepted { slot, text } => {
             return Decision {
                 act: Act::Taken(slot),
                 told: Told::Is {
@@ -90,8 +88,7 @@ fn rule(s: &[u8], verdict: Verdict, id: i8, shown: Shown, end: usize) -> Decisio
 // Step 6: the component against its entry.
 fn weigh_component(slot: Slot, shown: Shown, s: &[u8], end: usize) -> Decision
     requires { ⌜ (parameterLength shown ≤ end) × (end ≤ length (now s)) ⌝ }
-    ensures decides { λ r. ⌜ decisionSeen (now (s .entry)) r ≡ stepSix (slotSeen slot) (shownSeen (take end (now (s .entry))) shown) (drop end (now (s .entry))) ⌝ }
-    ensures within { λ r. ⌜ DecisionWithin (now (s .entry)) r ⌝ }
+    ensures decides { λ r. ⌜ Decides (stepSix (slotSeen slot) (shownSeen (take end (now (s .entry))) shown) (drop end (now (s .entry)))) (now (s .entry)) r ⌝ }
 {
     let p = &s[end - components::shown::parameter_length(shown)..end];
     match shown {
@@ -101,24 +98,24 @@ fn weigh_component(slot: Slot, shown: Shown, s: &[u8], end: usize) -> Decision
             operation,
             parameter: _,
         } => {
-            let verdict = judging::judge_invoke(slot, id, linked, operation, p);
-            return rule(s, verdict, id, shown, end);
+            let judgement = judging::judge_invoke(slot, id, linked, operation, p);
+            return rule(s, judgement, id, shown, end);
         }
         Shown::Result {
             id,
             operation,
             parameter: _,
         } => {
-            let verdict = judging::judge_result(slot, id, operation, p);
-            return rule(s, verdict, id, shown, end);
+            let judgement = judging::judge_result(slot, id, operation, p);
+            return rule(s, judgement, id, shown, end);
         }
         Shown::Error {
             id,
             code,
             parameter: _,
         } => {
-            let verdict = judging::judge_error(slot, id, code);
-            return rule(s, verdict, id, shown, end);
+            let judgement = judging::judge_error(slot, id, code);
+            return rule(s, judgement, id, shown, end);
         }
         Shown::Reject {
             id: _,
@@ -140,8 +137,7 @@ fn weigh_component(slot: Slot, shown: Shown, s: &[u8], end: usize) -> Decision
 // Step 5: what the Facility value says.
 fn weigh(slot: Slot, s: &[u8], start: usize, end: usize) -> Decision
     requires { ⌜ (start ≤ end) × (end ≤ length (now s)) ⌝ }
-    ensures decides { λ r. ⌜ decisionSeen (now (s .entry)) r ≡ stepFive (slotSeen slot) (facility (between start end (now (s .entry)))) (drop end (now (s .entry))) ⌝ }
-    ensures within { λ r. ⌜ DecisionWithin (now (s .entry)) r ⌝ }
+    ensures decides { λ r. ⌜ Decides (fiveAndSix (slotSeen slot) (facility (between start end (now (s .entry)))) (drop end (now (s .entry)))) (now (s .entry)) r ⌝ }
 {
     let own = slot.own;
     let peer = slot.peer;
@@ -222,8 +218,7 @@ fn except_invoke(s: &[u8], told: Told) -> Told
 // RELEASE COMPLETE of an open entry, with what its Facility value was weighed to show.
 fn release(s: &[u8], told: Told) -> Decision
     requires { ⌜ ToldWithin (now s) told ⌝ }
-    ensures decides { λ r. ⌜ decisionSeen (now (s .entry)) r ≡ released (exceptInvoke (toldSeen (now (s .entry)) told)) (firstTaken 0x08 (now (s .entry))) ⌝ }
-    ensures within { λ r. ⌜ DecisionWithin (now (s .entry)) r ⌝ }
+    ensures decides { λ r. ⌜ Decides (released (exceptInvoke (toldSeen (now (s .entry)) told)) (firstTaken 0x08 (now (s .entry)))) (now (s .entry)) r ⌝ }
 {
     Decision {
         act: Act::Released(messages::scan::find(s, 0x08)),
@@ -235,7 +230,7 @@ fn release(s: &[u8], told: Told) -> Decision
 pub enum Course {
     Ignored,
     WithCause(u8),
-    Released(Part),
+    Released(MaybePart),
     Weighs {
         release: bool,
         start: usize,
@@ -245,9 +240,9 @@ pub enum Course {
 
 // Step 4: the mandatory part and what must be understood, for REGISTER and FACILITY.
 fn course_required(s: &[u8], kind: u8) -> Course
-    ensures { λ r. ⌜ ((e : Entry) → CourseSeen e (now (s .entry)) r (stepFour e kind (now (s .entry)))) ⌝ }
+    ensures { λ r. ⌜ ((e : Entry) → CourseSeen e (now (s .entry)) r (fourToSix e kind (now (s .entry)))) ⌝ }
 {
-    let Body::Facility { start, end } = messages::scan::read_required(s, kind) else {
+    let MaybePart::Between { start, end } = messages::scan::read_required(s, kind) else {
         return Course::WithCause(96);
     };
     Course::Weighs {
@@ -261,7 +256,7 @@ fn course_required(s: &[u8], kind: u8) -> Course
 fn course_released(s: &[u8]) -> Course
     ensures { λ r. ⌜ ((e : Entry) → CourseSeen e (now (s .entry)) r (onRelease e (now (s .entry)))) ⌝ }
 {
-    let Part::Between { start, end } = messages::scan::find(s, 0x1C) else {
+    let MaybePart::Between { start, end } = messages::scan::find(s, 0x1C) else {
         return Course::Released(messages::scan::find(s, 0x08));
     };
     Course::Weighs {
@@ -273,7 +268,7 @@ fn course_released(s: &[u8]) -> Course
 
 // Steps 2 and 3, by the message's type and whether the entry is open.
 fn course_of(slot: Slot, flag: u8, kind: u8, s: &[u8]) -> Course
-    ensures { λ r. ⌜ CourseSeen (slotSeen slot) (now (s .entry)) r (stepTwo (slotSeen slot) flag kind (now (s .entry))) ⌝ }
+    ensures { λ r. ⌜ CourseSeen (slotSeen slot) (now (s .entry)) r (fromType (slotSeen slot) flag kind (now (s .entry))) ⌝ }
 {
     match messages::layout::type_of(kind) {
         MessageType::ReleaseComplete => {
@@ -305,8 +300,7 @@ fn course_of(slot: Slot, flag: u8, kind: u8, s: &[u8]) -> Course
 
 // Steps 2 to 6. There is one place where a Facility value is weighed, so that it is compiled into its caller.
 fn decide_by_type(slot: Slot, flag: u8, kind: u8, s: &[u8]) -> Decision
-    ensures decides { λ r. ⌜ decisionSeen (now (s .entry)) r ≡ stepTwo (slotSeen slot) flag kind (now (s .entry)) ⌝ }
-    ensures within { λ r. ⌜ DecisionWithin (now (s .entry)) r ⌝ }
+    ensures decides { λ r. ⌜ Decides (fromType (slotSeen slot) flag kind (now (s .entry))) (now (s .entry)) r ⌝ }
 {
     match course_of(slot, flag, kind, s) {
         Course::Ignored => {
@@ -334,8 +328,8 @@ fn decide_by_type(slot: Slot, flag: u8, kind: u8, s: &[u8]) -> Decision
 }
 
 // The first octet; 0 where there is none.
-fn first_of(message: &[u8]) -> u8
-    ensures { λ r. ⌜ r ≡ firstOf (now (message .entry)) ⌝ }
+fn first_octet(message: &[u8]) -> u8
+    ensures { λ r. ⌜ r ≡ firstOctet (now (message .entry)) ⌝ }
 {
     if message.len() < 1 {
         return 0;
@@ -344,10 +338,10 @@ fn first_of(message: &[u8]) -> u8
 }
 
 // The entry that a message's first octet picks.
-pub fn entry_of(message: &[u8]) -> u8
-    ensures { λ r. ⌜ r ≡ entryOf (now (message .entry)) ⌝ }
+pub fn picked_entry(message: &[u8]) -> u8
+    ensures { λ r. ⌜ r ≡ pickedEntry (now (message .entry)) ⌝ }
 {
-    let first = first_of(message);
+    let first = first_octet(message);
     let value = messages::layout::value_of(first);
     if messages::layout::flag_of(first) == 1 {
         return value;
@@ -359,7 +353,7 @@ pub fn entry_of(message: &[u8]) -> u8
 pub fn reply_first(message: &[u8]) -> u8
     ensures { λ r. ⌜ r ≡ replyFirst (now (message .entry)) ⌝ }
 {
-    let first = first_of(message);
+    let first = first_octet(message);
     messages::layout::sent_first(
         messages::layout::flag_of(first), // turned by sent_first
         messages::layout::value_of(first),
@@ -369,15 +363,14 @@ pub fn reply_first(message: &[u8]) -> u8
 // Step 2: the entry that flag and value pick; value 7 picks none.
 fn decide_entry(table: &[u8], message: &[u8]) -> Decision
     requires { ⌜ 2 ≤ length (now message) ⌝ }
-    ensures decides { λ r. ⌜ decisionSeen (drop 2 (now (message .entry))) r ≡ fromEntry (now (table .entry)) (now (message .entry)) ⌝ }
-    ensures within { λ r. ⌜ DecisionWithin (drop 2 (now (message .entry))) r ⌝ }
-    ensures ready { λ r. ⌜ (isSilent r ≡ false → value (firstOf (now (message .entry))) < 7) ⌝ }
+    ensures decides { λ r. ⌜ Decides (fromEntry (now (table .entry)) (now (message .entry))) (drop 2 (now (message .entry))) r ⌝ }
+    ensures ready { λ r. ⌜ (isSilent r ≡ false → value (firstOctet (now (message .entry))) < 7) ⌝ }
 {
     let first = message[0];
     if messages::layout::value_of(first) == 7 {
         return untold(Act::Silent(1)); // it names none
     }
-    let slot = table::read_entry(table, entry_of(message));
+    let slot = table::read_entry(table, picked_entry(message));
     decide_by_type(
         slot,
         messages::layout::flag_of(first),
@@ -386,23 +379,12 @@ fn decide_entry(table: &[u8], message: &[u8]) -> Decision
     )
 }
 
-// Whether the image is not damaged. Most messages find it as at the start, and that is told without a call.
-fn is_readable(table: &[u8]) -> bool
-    ensures { λ r. ⌜ r ≡ valid (now (table .entry)) ⌝ }
-{
-    if table::is_new(table) {
-        return true;
-    }
-    table::is_valid(table)
-}
-
 // 28 and 27, then the steps.
 pub fn decide(table: &[u8], message: &[u8], room: usize) -> Decision
-    ensures decides { λ r. ⌜ decisionSeen (drop 2 (now (message .entry))) r ≡ decide (now (table .entry)) (now (message .entry)) room ⌝ }
-    ensures within { λ r. ⌜ DecisionWithin (drop 2 (now (message .entry))) r ⌝ }
+    ensures decides { λ r. ⌜ Decides (decide (now (table .entry)) (now (message .entry)) room) (drop 2 (now (message .entry))) r ⌝ }
     ensures ready { λ r. ⌜ (isSilent r ≡ false → Ready (now (table .entry)) (now (message .entry)) room) ⌝ }
 {
-    if !is_readable(table) {
+    if !table::is_valid(table) {
         return untold(Act::Silent(28));
     }
     if room < 12 {

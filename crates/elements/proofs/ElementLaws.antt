@@ -5,7 +5,7 @@ use mathlib.Core.List.{List, [], _∷_, _++_, append-assoc}
 use mathlib.Core.Bool.{Bool, true, false, cond, not}
 use native.Mathlib.Omega.{arith}
 use native.Mathlib.Nat.{div-add-mod', div-lt-iff-lt-mul, mod-lt}
-use lib.ListN.{length, getD, length-append}
+use lib.ListN.{length, length-append}
 use lib.Dec.{ltb, eqb}
 use borrow.Author.Tests.{ltb-true, ltb-false, lt-ltb, le-ltb}
 use Rattle.octets.specs.Octets.{Octets}
@@ -36,16 +36,6 @@ element-local =
 -- an element read stays the same with anything appended behind it
 pub element-stays : (s x : List ℕ) (g : Taken Element) → element s ≡ sound g → element (s ++ x) ≡ took (g .value) (g .rest ++ x)
 element-stays = stays element element-local
-
--- an element's tag is its first octet
-pub first-tag : (s : List ℕ) (g : Taken Element) → element s ≡ sound g → g .value .tag ≡ getD s 0 0
-unfolding element
-first-tag [] g e = not-sound e
-first-tag (a ∷ s) g e =
-    passed (not (refusedTag a)) unreadable _ g e λ t q.
-    through (lengthOf s) _ g q λ n p r.
-    through (front unreadable (n .value) (n .rest)) _ g r λ c u v.
-    ap (λ h. h .value .tag) (sym (sound-inj v))
 
 -- by the size of a length: each of the three forms
 pub by-form : {P : Type 0} (n : ℕ) → (ltb n 128 ≡ true → P) → (ltb n 128 ≡ false → ltb n 256 ≡ true → P) → (ltb n 128 ≡ false → ltb n 256 ≡ false → P) → P

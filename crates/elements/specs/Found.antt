@@ -1,10 +1,11 @@
--- What the code's answers say of the part that was read: places turned into what stands there.
+-- What the code's answers say of the part that was read, places turned into what stands there, and what is promised of them.
 use Prim.Native.Nat.{ℕ, _≤_, _<_}
+use mathlib.Core.Path.{_≡_}
 use mathlib.Core.List.{List}
 use lib.ListN.{length, drop}
 use Rattle.octets.specs.Part.{between}
 use Rattle.octets.specs.Reader.{Answer, fault, Taken, took}
-use Rattle.elements.specs.Element.{Element, missing, unreadable}
+use Rattle.elements.specs.Element.{missing, unreadable, lengthOf, Element, element}
 use Rattle.elements.specs.declared.Length.{Length}
 use Rattle.elements.specs.declared.Length.the-variants.{Is}
 use Rattle.elements.specs.declared.Found.{Found}
@@ -18,6 +19,9 @@ abbrev pub LengthWithin : List ℕ → Length → Type 0
 LengthWithin s Length.Unreadable = Unit {0}
 LengthWithin s (Is octets taken) = (1 ≤ taken) × ((taken ≤ 3) × ((taken ≤ length s) × (octets < 65536)))
 
+abbrev pub ReadsLength : List ℕ → Length → Type 0
+ReadsLength s length = (lengthSeen s length ≡ lengthOf s) × LengthWithin s length
+
 abbrev pub seen : List ℕ → Found → Answer (Taken Element)
 seen s Missing = fault missing
 seen s Found.Unreadable = fault unreadable
@@ -28,3 +32,6 @@ abbrev pub Within : List ℕ → Found → Type 0
 Within s Missing = Unit {0}
 Within s Found.Unreadable = Unit {0}
 Within s (Whole tag start end) = (2 ≤ start) × ((start ≤ 4) × ((start ≤ end) × (end ≤ length s)))
+
+abbrev pub ReadsElement : List ℕ → Found → Type 0
+ReadsElement s found = (seen s found ≡ element s) × Within s found

@@ -4,8 +4,8 @@ ghost use Prim.Native.Nat.{_+_, _≤_, _<_};
 ghost use mathlib.Core.List.{_++_};
 ghost use lib.ListN.{length};
 ghost use Rattle.octets.specs.Splice.{splice};
-ghost use Rattle.elements.specs.Element.{lengthOf, element, row, shortest, header};
-ghost use Rattle.elements.specs.Found.{lengthSeen, LengthWithin, seen, Within};
+ghost use Rattle.elements.specs.Element.{row, shortest, header};
+ghost use Rattle.elements.specs.Found.{ReadsLength, ReadsElement};
 
 pub enum Length {
     Unreadable,
@@ -27,8 +27,7 @@ fn wide(x: u8) -> usize
 
 // The length at the front of a part, in any form that is read.
 pub fn read_length(s: &[u8]) -> Length
-    ensures reads { λ r. ⌜ lengthSeen (now (s .entry)) r ≡ lengthOf (now (s .entry)) ⌝ }
-    ensures within { λ r. ⌜ LengthWithin (now (s .entry)) r ⌝ }
+    ensures { λ r. ⌜ ReadsLength (now (s .entry)) r ⌝ }
 {
     if s.len() < 1 {
         return Length::Unreadable;
@@ -63,8 +62,7 @@ pub fn read_length(s: &[u8]) -> Length
 
 // The element at the front of a part.
 pub fn read_element(s: &[u8]) -> Found
-    ensures reads { λ r. ⌜ seen (now (s .entry)) r ≡ element (now (s .entry)) ⌝ }
-    ensures within { λ r. ⌜ Within (now (s .entry)) r ⌝ }
+    ensures { λ r. ⌜ ReadsElement (now (s .entry)) r ⌝ }
 {
     if s.len() < 1 {
         return Found::Missing;

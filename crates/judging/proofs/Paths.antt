@@ -7,9 +7,10 @@ use mathlib.Core.Option.{Option, none, some}
 use native.Mathlib.Omega.{arith}
 use lib.IntN.{ℤ}
 use lib.Dec.{eqb}
+use mir.Syntax.{w8}
+use mir.Val.{ofZ}
 use borrow.Author.Tests.{eqb-true}
-use Rattle.codes.specs.Ids.{idOf, octetOf}
-use Rattle.codes.proofs.IdLaws.{IsId, id-back}
+use Rattle.codes.proofs.IdLaws.{asHeld, IsId, held-is, octet-is}
 use Rattle.parameters.specs.Seen.{TextSeen}
 use Rattle.parameters.specs.declared.text.Ussd.{Ussd}
 use Rattle.components.specs.Component.{result}
@@ -20,12 +21,16 @@ use Rattle.table.specs.declared.Invoke.{Invoke}
 use Rattle.judging.specs.StepSix.{sameId, among, full, operationOf, without, isOurs}
 use Rattle.judging.specs.Seen.{toldText}
 
--- an id as the code hands it on
-pub among-is : {b : Bool} {id : ℤ} (ws : List Waiting) → IsId id → b ≡ among (idOf (octetOf id)) ws → b ≡ among id ws
-among-is ws h e = e ∙ ap (λ (i : ℤ). among i ws) (id-back h)
+-- ids are the same where the language has them so
+pub same-is : (a b : ℤ) → eqb (ofZ w8 a) (ofZ w8 b) ≡ sameId a b
+same-is a b = rw (octet-is a, octet-is b)
 
-pub operation-is : {n : ℕ} {id : ℤ} (ws : List Waiting) → IsId id → n ≡ operationOf (idOf (octetOf id)) ws → n ≡ operationOf id ws
-operation-is ws h e = e ∙ ap (λ (i : ℤ). operationOf i ws) (id-back h)
+-- an id as the code hands it on
+pub among-is : {b : Bool} {id : ℤ} (ws : List Waiting) → IsId id → b ≡ among (asHeld id) ws → b ≡ among id ws
+among-is ws h e = e ∙ ap (λ (i : ℤ). among i ws) (held-is h)
+
+pub operation-is : {n : ℕ} {id : ℤ} (ws : List Waiting) → IsId id → n ≡ operationOf (asHeld id) ws → n ≡ operationOf id ws
+operation-is ws h e = e ∙ ap (λ (i : ℤ). operationOf i ws) (held-is h)
 
 pub or-none : (b : Bool) → b ≡ b || false
 or-none true = refl

@@ -1,22 +1,34 @@
--- What the code's answers mean.
+-- What the code's answers mean, and what is promised of them.
 use Prim.Native.Nat.{ℕ}
+use mathlib.Core.Path.{_≡_}
+use mathlib.Core.List.{List, []}
+use mathlib.Core.Bool.{true}
 use mathlib.Core.Option.{Option, none, some}
 use Rattle.parameters.specs.declared.text.Ussd.{Ussd}
-use Rattle.components.specs.Component.{Component}
+use lib.IntN.{ℤ}
+use Rattle.components.specs.Component.{Component, error}
 use Rattle.components.specs.Seen.{TextTold}
+use Rattle.table.specs.Table.{Waiting, Entry}
 use Rattle.table.specs.Seen.{slotSeen}
-use Rattle.judging.specs.StepSix.{Judged, problem, accepted}
-use Rattle.judging.specs.declared.Verdict.{Verdict}
+use Rattle.judging.specs.StepSix.{Judged, problem, accepted, kept}
+use Rattle.judging.specs.declared.Judgement.{Judgement}
 use Rattle.judging.specs.declared.Linked.{Linked}
 
-abbrev pub verdictSeen : Verdict → Judged
-verdictSeen (Verdict.Problem tag number) = problem tag number
-verdictSeen (Verdict.Accepted slot text) = accepted (slotSeen slot)
+abbrev pub judgementSeen : Judgement → Judged
+judgementSeen (Judgement.Problem tag number) = problem tag number
+judgementSeen (Judgement.Accepted slot text) = accepted (slotSeen slot)
 
 -- a component that is accepted is told with its text
-abbrev pub VerdictText : Component → Verdict → Type 0
-VerdictText c (Verdict.Problem tag number) = Unit {0}
-VerdictText c (Verdict.Accepted slot text) = TextTold c text
+abbrev pub JudgementText : Component → Judgement → Type 0
+JudgementText c (Judgement.Problem tag number) = Unit {0}
+JudgementText c (Judgement.Accepted slot text) = TextTold c text
+
+abbrev pub Judges : Judged → Component → Judgement → Type 0
+Judges definition c judgement = (judgementSeen judgement ≡ definition) × JudgementText c judgement
+
+-- an error carries no text, whatever its parameter is
+abbrev pub JudgesError : Judged → ℤ → ℕ → Judgement → Type 0
+JudgesError definition id code judgement = (judgementSeen judgement ≡ definition) × ((p : List ℕ) → JudgementText (error id code p) judgement)
 
 -- a result without its operation carries no text
 abbrev pub toldText : Option ℕ → Ussd → Ussd
@@ -30,3 +42,7 @@ linkedSeen (Linked.Problem number) = some number
 abbrev pub linkedNumber : Linked → ℕ
 linkedNumber Linked.Sound = 0
 linkedNumber (Linked.Problem number) = number
+
+-- the entry with an invoke kept, where no other waits
+abbrev pub withOne : List Waiting → ℤ → ℕ → Entry
+withOne own id operation = record { isOpen = true; own = own; peer = kept [] id operation }

@@ -5,6 +5,7 @@ use mathlib.Core.Bool.{Bool, true, false, cond, not, _&&_, _||_}
 use mathlib.Core.Option.{Option, none, some}
 use lib.IntN.{ℤ}
 use lib.Dec.{eqb}
+use Rattle.octets.specs.Unless.{unless}
 use Rattle.codes.specs.Ids.{octetOf}
 use Rattle.codes.specs.Operations.{serves, waits}
 use Rattle.codes.specs.Errors.{listed}
@@ -45,12 +46,10 @@ without id (w ∷ ws) = cond (sameId (w .id) id) ws (w ∷ without id ws)
 unfoldable pub linkedProblem : List Waiting → Option ℤ → ℕ → Option ℕ
 linkedProblem own none operation = none
 linkedProblem own (some id) operation =
-    cond (among id own)
-    (cond (eqb (operationOf id own) 17)
-    (cond (eqb operation 18) none
-    (some 7))
-    (some 6))
-    (some 5)
+    unless (among id own) (some 5)
+    (unless (eqb (operationOf id own) 17) (some 6)
+    (unless (eqb operation 18) (some 7)
+    none))
 
 abbrev pub orProblem : Option ℕ → Judged → Judged
 orProblem none next = next
@@ -64,20 +63,16 @@ kept peer id operation = cond (waits operation) (peer ++ (record { id = id; oper
 abbrev pub withPeer : Entry → ℤ → ℕ → Entry
 withPeer e id operation = record { isOpen = true; own = e .own; peer = kept (e .peer) id operation }
 
--- the same where no other waits
-abbrev pub withOne : List Waiting → ℤ → ℕ → Entry
-withOne own id operation = record { isOpen = true; own = own; peer = kept [] id operation }
-
--- "Invoke: id equal to the waiting peer invoke, invoke problem 0; any other waiting, 3; operation not served, 1; .. parameter, 2."
+-- "Invoke: id equal to the waiting peer invoke, invoke problem 0; any other waiting, 3; operation not served, 1; linked id ..;
+-- parameter, 2."
 unfoldable pub judgeInvoke : Entry → ℤ → Option ℤ → ℕ → List ℕ → Judged
 judgeInvoke e id linked operation p =
-    cond (among id (e .peer)) (problem invoke 0)
-    (cond (full (e .peer)) (problem invoke 3)
-    (cond (serves operation)
+    unless (not (among id (e .peer))) (problem invoke 0)
+    (unless (not (full (e .peer))) (problem invoke 3)
+    (unless (serves operation) (problem invoke 1)
     (orProblem (linkedProblem (e .own) linked operation)
-    (cond (suits InvokeReceived operation p) (accepted (withPeer e id operation))
-    (problem invoke 2)))
-    (problem invoke 1)))
+    (unless (suits InvokeReceived operation p) (problem invoke 2)
+    (accepted (withPeer e id operation))))))
 
 -- "A result or error received clears the own invoke, and the transaction stays open."
 abbrev pub withoutOwn : Entry → ℤ → Entry
@@ -91,15 +86,13 @@ isOurs (some operation) ours = eqb operation ours
 -- "Result: id, result problem 0; operation other than ours, or parameter, 2."
 unfoldable pub judgeResult : Entry → ℤ → Option ℕ → List ℕ → Judged
 judgeResult e id operation p =
-    cond (among id (e .own))
-    (cond (isOurs operation (operationOf id (e .own)) && suits ResultReceived (operationOf id (e .own)) p) (accepted (withoutOwn e id))
-    (problem result 2))
-    (problem result 0)
+    unless (among id (e .own)) (problem result 0)
+    (unless (isOurs operation (operationOf id (e .own)) && suits ResultReceived (operationOf id (e .own)) p) (problem result 2)
+    (accepted (withoutOwn e id)))
 
 -- "Error: id, error problem 0; code not listed, 2."
 unfoldable pub judgeError : Entry → ℤ → ℕ → Judged
 judgeError e id code =
-    cond (among id (e .own))
-    (cond (listed code) (accepted (withoutOwn e id))
-    (problem error 2))
-    (problem error 0)
+    unless (among id (e .own)) (problem error 0)
+    (unless (listed code) (problem error 2)
+    (accepted (withoutOwn e id)))

@@ -4,18 +4,16 @@ use parameters::text::Ussd;
 use places::Id;
 use table::Invoke;
 use table::Slot;
-ghost use Prim.Native.Nat.{ℕ};
 ghost use mathlib.Core.Path.{_≡_};
-ghost use mathlib.Core.List.{List};
 ghost use Rattle.places.specs.Seen.{idSeen};
-ghost use Rattle.components.specs.Component.{invoke, result, error};
+ghost use Rattle.components.specs.Component.{invoke, result};
 ghost use Rattle.components.specs.Seen.{operationSeen};
 ghost use Rattle.table.specs.Seen.{invokeSeen, slotSeen};
-ghost use Rattle.judging.specs.StepSix.{among, full, operationOf, judgeInvoke, judgeResult, judgeError, isOurs, linkedProblem, withOne};
-ghost use Rattle.judging.specs.Seen.{verdictSeen, VerdictText, toldText, linkedSeen, linkedNumber};
+ghost use Rattle.judging.specs.StepSix.{among, full, operationOf, judgeInvoke, judgeResult, judgeError, isOurs, linkedProblem};
+ghost use Rattle.judging.specs.Seen.{Judges, JudgesError, toldText, linkedSeen, linkedNumber, withOne};
 
 // What is accepted comes with the entry as it becomes, and the text that was read.
-pub enum Verdict {
+pub enum Judgement {
     Problem { tag: u8, number: u8 },
     Accepted { slot: Slot, text: Ussd },
 }
@@ -129,46 +127,45 @@ fn with_peer(own: Invoke, id: i8, operation: u8) -> Slot
 }
 
 // An Invoke.
-pub fn judge_invoke(slot: Slot, id: i8, linked: Id, operation: u8, p: &[u8]) -> Verdict
-    ensures judges { λ r. ⌜ verdictSeen r ≡ judgeInvoke (slotSeen slot) id (idSeen linked) operation (now (p .entry)) ⌝ }
-    ensures text { λ r. ⌜ VerdictText (invoke id (idSeen linked) operation (now (p .entry))) r ⌝ }
+pub fn judge_invoke(slot: Slot, id: i8, linked: Id, operation: u8, p: &[u8]) -> Judgement
+    ensures { λ r. ⌜ Judges (judgeInvoke (slotSeen slot) id (idSeen linked) operation (now (p .entry))) (invoke id (idSeen linked) operation (now (p .entry))) r ⌝ }
 {
     let own = slot.own;
     let peer = slot.peer;
     if is_among(id, peer) {
-        return Verdict::Problem {
+        return Judgement::Problem {
             tag: 0x81,
             number: 0, // a duplicate
         };
     }
     if is_full(peer) {
-        return Verdict::Problem {
+        return Judgement::Problem {
             tag: 0x81,
             number: 3,
         };
     }
     if !codes::operations::is_served(operation) {
-        return Verdict::Problem {
+        return Judgement::Problem {
             tag: 0x81,
             number: 1,
         };
     }
     let told = judge_linked(own, linked, operation);
     let Linked::Sound = told else {
-        return Verdict::Problem {
+        return Judgement::Problem {
             tag: 0x81,
             number: linked_number(told),
         };
     };
     let read = parameters::suits::suits_invoke_received(operation, p);
     if !read.suited {
-        return Verdict::Problem {
+        return Judgement::Problem {
             tag: 0x81,
             number: 2,
         };
     }
     let text = read.text;
-    Verdict::Accepted {
+    Judgement::Accepted {
         slot: with_peer(own, id, operation),
         text: text,
     }
@@ -203,14 +200,13 @@ fn told_text(operation: Operation, text: Ussd) -> Ussd
 }
 
 // A Return result.
-pub fn judge_result(slot: Slot, id: i8, operation: Operation, p: &[u8]) -> Verdict
-    ensures judges { λ r. ⌜ verdictSeen r ≡ judgeResult (slotSeen slot) id (operationSeen operation) (now (p .entry)) ⌝ }
-    ensures text { λ r. ⌜ VerdictText (result id (operationSeen operation) (now (p .entry))) r ⌝ }
+pub fn judge_result(slot: Slot, id: i8, operation: Operation, p: &[u8]) -> Judgement
+    ensures { λ r. ⌜ Judges (judgeResult (slotSeen slot) id (operationSeen operation) (now (p .entry))) (result id (operationSeen operation) (now (p .entry))) r ⌝ }
 {
     let own = slot.own;
     let peer = slot.peer;
     if !is_among(id, own) {
-        return Verdict::Problem {
+        return Judgement::Problem {
             tag: 0x82,
             number: 0,
         };
@@ -218,13 +214,13 @@ pub fn judge_result(slot: Slot, id: i8, operation: Operation, p: &[u8]) -> Verdi
     let ours = waiting_operation(id, own);
     let read = parameters::suits::suits_result_received(ours, p);
     if !(is_ours(operation, ours) & read.suited) {
-        return Verdict::Problem {
+        return Judgement::Problem {
             tag: 0x82,
             number: 2,
         };
     }
     let text = read.text;
-    Verdict::Accepted {
+    Judgement::Accepted {
         slot: Slot {
             open: slot.open,
             own: Invoke::Absent,
@@ -235,25 +231,24 @@ pub fn judge_result(slot: Slot, id: i8, operation: Operation, p: &[u8]) -> Verdi
 }
 
 // A Return error.
-pub fn judge_error(slot: Slot, id: i8, code: u8) -> Verdict
-    ensures judges { λ r. ⌜ verdictSeen r ≡ judgeError (slotSeen slot) id code ⌝ }
-    ensures text { λ r. ⌜ ((p : List ℕ) → VerdictText (error id code p) r) ⌝ }
+pub fn judge_error(slot: Slot, id: i8, code: u8) -> Judgement
+    ensures { λ r. ⌜ JudgesError (judgeError (slotSeen slot) id code) id code r ⌝ }
 {
     let own = slot.own;
     let peer = slot.peer;
     if !is_among(id, own) {
-        return Verdict::Problem {
+        return Judgement::Problem {
             tag: 0x83,
             number: 0,
         };
     }
     if !codes::errors::is_listed(code) {
-        return Verdict::Problem {
+        return Judgement::Problem {
             tag: 0x83,
             number: 2,
         };
     }
-    Verdict::Accepted {
+    Judgement::Accepted {
         slot: Slot {
             open: slot.open, // as it was
             own: Invoke::Absent,

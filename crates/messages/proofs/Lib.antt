@@ -3,3 +3,4 @@ pub mod Determined
 mod NotWhole
 mod Paths
 pub mod Worked
+pub mod TypeLaws

@@ -3,7 +3,7 @@
 use Prim.Native.Nat.{ℕ, zero, suc, _+_, _≤_, _<_}
 use mathlib.Core.Path.{_≡_, refl, sym, ap, _∙_}
 use mathlib.Core.List.{List, [], _∷_, _++_, append-assoc}
-use mathlib.Core.Bool.{Bool, true, false, cond, _&&_, _||_}
+use mathlib.Core.Bool.{Bool, true, false, cond, _&&_, _||_, and-true}
 use mathlib.Core.Option.{Option, none, some}
 use native.Mathlib.Omega.{arith}
 use lib.ListN.{length, getD, take, drop, length-append, take-append-drop}
@@ -13,7 +13,8 @@ use borrow.Author.Tests.{lt-leb, leb-true, ne-eqb, eqb-true, eqb-false}
 use Rattle.octets.specs.Reader.{Answer, fault, sound, Taken, took, seq, done, need, octet, front, isEmpty}
 use Rattle.octets.proofs.ReaderLaws.{sound-inj, not-sound, through, passed, Local, IsLocal, done-local, seq-local, need-local, cond-local, octet-local, front-local, front-back, stays, either}
 use Rattle.messages.specs.Layout.{mandatoryMissing, registerType, facilityType, sized, mandatory}
-use Rattle.messages.specs.Scan.{Information, absent, cut, information, onward, clearOf, clear, required, wanted, firstOf, firstTaken, contentsOf, firstWhole, Passed, nothing, another}
+use Rattle.messages.specs.Scan.{Information, absent, cut, information, onward, clearOf, clear, required, wanted, firstOf, firstTaken, contentsOf, firstWhole}
+use Rattle.messages.specs.LaterEdition.{Passed, nothing, another}
 
 pub information-local : IsLocal information
 unfolding information
@@ -108,10 +109,6 @@ clear-step [] g e = not-sound e
 clear-step (a ∷ s) g e =
     let l = information-shorter (a ∷ s) g e in
     rw e (ap (λ (b : Bool). leb 0x10 a && b) (clear-enough (length s) (g .rest) (length (g .rest)) (omega arith) (omega arith)))
-
-and-true : (b : Bool) → (b && true) ≡ b
-and-true true = refl
-and-true false = refl
 
 pub clear-cut : (s : List ℕ) (n : ℕ) → information s ≡ fault n → clear s ≡ (isEmpty s || leb 0x10 (getD s 0 0))
 unfolding clear clearOf

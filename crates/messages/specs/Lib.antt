@@ -1,4 +1,5 @@
 pub mod Layout
 pub mod Types
 pub mod Scan
+pub mod LaterEdition
 pub mod Seen

@@ -1,6 +1,5 @@
 -- 01, "Message layout": the information elements behind the mandatory part, and those of RELEASE COMPLETE.
 use Prim.Native.Nat.{ℕ, zero, suc}
-use mathlib.Core.Path.{_≡_}
 use mathlib.Core.List.{List, []}
 use mathlib.Core.Bool.{Bool, true, cond, _&&_, _||_}
 use mathlib.Core.Option.{Option, none, some}
@@ -68,8 +67,3 @@ contentsOf (some t) = some (t .value)
 -- its contents alone
 unfoldable pub firstWhole : ℕ → List ℕ → Option (List ℕ)
 firstWhole identifier s = contentsOf (firstTaken identifier s)
-
--- whole information elements in a row, none with the identifier w
-pub data Passed (w : ℕ) : List ℕ → Type 0 where
-  nothing : Passed w []
-  another : {s : List ℕ} (g : Taken Information) → information s ≡ sound g → (g .value .identifier ≡ w → ⊥) → Passed w (g .rest) → Passed w s

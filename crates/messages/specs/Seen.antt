@@ -1,17 +1,17 @@
--- What the code's answers say of the octets that were read.
+-- What the code's answers say of the octets that were read, and what is promised of them.
 use Prim.Native.Nat.{ℕ, _≤_, _<_}
-use mathlib.Core.List.{List, []}
-use mathlib.Core.Option.{Option, none, some}
-use lib.ListN.{length, drop, getD}
+use mathlib.Core.Path.{_≡_}
+use mathlib.Core.List.{List}
+use lib.ListN.{length, drop}
 use Rattle.octets.specs.Part.{between}
-use Rattle.octets.specs.Reader.{Answer, fault, sound, Taken, took}
-use Rattle.messages.specs.Layout.{mandatoryMissing}
-use Rattle.messages.specs.Scan.{Information, absent, cut}
+use Rattle.octets.specs.Reader.{Answer, fault, Taken, took}
+use Rattle.octets.specs.Seen.{partFound, partRead, PartWithin}
+use Rattle.octets.specs.declared.MaybePart.{MaybePart}
+use Rattle.messages.specs.Layout.{mandatoryMissing, sized, mandatory}
+use Rattle.messages.specs.Scan.{Information, absent, cut, information, required, firstTaken}
 use Rattle.messages.specs.declared.scan.Item.{Item}
-use Rattle.messages.specs.declared.scan.Part.{Part}
-use Rattle.messages.specs.declared.layout.Body.{Body}
 
--- a cut one tells its identifier, which stands first
+-- both that nothing is there and that it is cut are told by the octets that are left
 abbrev pub itemSeen : List ℕ → Item → Answer (Taken Information)
 itemSeen s Item.End = fault absent
 itemSeen s Item.Cut = fault cut
@@ -22,20 +22,19 @@ ItemWithin s Item.End = length s ≤ 0
 ItemWithin s Item.Cut = 0 < length s
 ItemWithin s (Item.Whole identifier start end) = (1 ≤ start) × ((start ≤ end) × (end ≤ length s))
 
--- the part's octets, and what stands behind it
-abbrev pub partSeen : List ℕ → Part → Option (Taken (List ℕ))
-partSeen s Part.Nothing = none
-partSeen s (Part.Between start end) = some (record { value = between start end s; rest = drop end s })
-
-abbrev pub PartWithin : List ℕ → Part → Type 0
-PartWithin s Part.Nothing = Unit {0}
-PartWithin s (Part.Between start end) = (start ≤ end) × (end ≤ length s)
+abbrev pub ReadsItem : List ℕ → Item → Type 0
+ReadsItem s item = (itemSeen s item ≡ information s) × ItemWithin s item
 
 -- the Facility value's places; what is left goes on behind it
-abbrev pub bodySeen : List ℕ → Body → Answer (Taken (List ℕ))
-bodySeen s Body.Missing = fault mandatoryMissing
-bodySeen s (Body.Facility start end) = took (between start end s) (drop end s)
+abbrev pub ReadsSized : List ℕ → MaybePart → Type 0
+ReadsSized s value = (partRead mandatoryMissing s value ≡ sized s) × PartWithin s value
 
-abbrev pub BodyWithin : List ℕ → Body → Type 0
-BodyWithin s Body.Missing = Unit {0}
-BodyWithin s (Body.Facility start end) = (start ≤ end) × (end ≤ length s)
+abbrev pub ReadsMandatory : ℕ → List ℕ → MaybePart → Type 0
+ReadsMandatory type s value = (partRead mandatoryMissing s value ≡ mandatory type s) × PartWithin s value
+
+abbrev pub ReadsRequired : ℕ → List ℕ → MaybePart → Type 0
+ReadsRequired type s value = (partRead mandatoryMissing s value ≡ required type s) × PartWithin s value
+
+-- the contents of the first whole element with this identifier
+abbrev pub FindsFirst : ℕ → List ℕ → MaybePart → Type 0
+FindsFirst identifier s contents = (partFound s contents ≡ firstTaken identifier s) × PartWithin s contents

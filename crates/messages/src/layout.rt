@@ -1,14 +1,10 @@
 // The first octet and the mandatory part of a message.
+use octets::MaybePart;
 ghost use mathlib.Core.Path.{_≡_};
 ghost use Prim.Native.Nat.{_≤_};
-ghost use Rattle.messages.specs.Layout.{discriminator, value, flag, sentFirst, sized, mandatory};
-ghost use Rattle.messages.specs.Types.{typeOf};
-ghost use Rattle.messages.specs.Seen.{bodySeen, BodyWithin};
-
-pub enum Body {
-    Missing,
-    Facility { start: usize, end: usize },
-}
+ghost use Rattle.messages.specs.Layout.{discriminator, value, flag, sentFirst};
+ghost use Rattle.messages.specs.Types.{TellsType};
+ghost use Rattle.messages.specs.Seen.{ReadsSized, ReadsMandatory};
 
 // What octet 2 tells, compared whole.
 pub enum MessageType {
@@ -19,7 +15,7 @@ pub enum MessageType {
 }
 
 pub fn type_of(octet: u8) -> MessageType
-    ensures { λ r. ⌜ r ≡ typeOf octet ⌝ }
+    ensures { λ r. ⌜ TellsType octet r ⌝ }
 {
     if octet == 0x2A {
         return MessageType::ReleaseComplete;
@@ -60,41 +56,39 @@ pub fn sent_first(flag: u8, value: u8) -> u8
 }
 
 // A length of one plain octet, and so many octets.
-fn read_sized(s: &[u8]) -> Body
-    ensures reads { λ r. ⌜ bodySeen (now (s .entry)) r ≡ sized (now (s .entry)) ⌝ }
-    ensures within { λ r. ⌜ BodyWithin (now (s .entry)) r ⌝ }
+fn read_sized(s: &[u8]) -> MaybePart
+    ensures { λ r. ⌜ ReadsSized (now (s .entry)) r ⌝ }
 {
     if s.len() < 1 {
-        return Body::Missing;
+        return MaybePart::Nothing;
     }
     let n = s[0] as usize;
     if s.len() - 1 < n {
-        return Body::Missing;
+        return MaybePart::Nothing;
     }
-    Body::Facility {
+    MaybePart::Between {
         start: 1,
         end: 1 + n,
     }
 }
 
 // The Facility value that must stand behind the type.
-pub fn read_mandatory(s: &[u8], kind: u8) -> Body
-    ensures reads { λ r. ⌜ bodySeen (now (s .entry)) r ≡ mandatory kind (now (s .entry)) ⌝ }
-    ensures within { λ r. ⌜ BodyWithin (now (s .entry)) r ⌝ }
+pub fn read_mandatory(s: &[u8], kind: u8) -> MaybePart
+    ensures { λ r. ⌜ ReadsMandatory kind (now (s .entry)) r ⌝ }
 {
     if kind != 0x3B {
         return read_sized(s);
     }
     if s.len() < 1 {
-        return Body::Missing;
+        return MaybePart::Nothing;
     }
     if s[0] != 0x1C {
-        return Body::Missing;
+        return MaybePart::Nothing;
     }
-    let Body::Facility { start, end } = read_sized(&s[1..]) else {
-        return Body::Missing;
+    let MaybePart::Between { start, end } = read_sized(&s[1..]) else {
+        return MaybePart::Nothing;
     };
-    Body::Facility {
+    MaybePart::Between {
         start: 1 + start,
         end: 1 + end,
     }

@@ -1,8 +1,8 @@
 // Information elements, scanned to the end of a part.
-use super::layout::Body;
+use octets::MaybePart;
 ghost use mathlib.Core.Path.{_≡_};
-ghost use Rattle.messages.specs.Scan.{information, clear, required, firstTaken};
-ghost use Rattle.messages.specs.Seen.{itemSeen, ItemWithin, partSeen, PartWithin, bodySeen, BodyWithin};
+ghost use Rattle.messages.specs.Scan.{clear};
+ghost use Rattle.messages.specs.Seen.{ReadsItem, ReadsRequired, FindsFirst};
 
 pub enum Item {
     End,
@@ -14,15 +14,9 @@ pub enum Item {
     },
 }
 
-pub enum Part {
-    Nothing,
-    Between { start: usize, end: usize },
-}
-
 // The information element at the front of a part.
 pub fn read_item(s: &[u8]) -> Item
-    ensures reads { λ r. ⌜ itemSeen (now (s .entry)) r ≡ information (now (s .entry)) ⌝ }
-    ensures within { λ r. ⌜ ItemWithin (now (s .entry)) r ⌝ }
+    ensures { λ r. ⌜ ReadsItem (now (s .entry)) r ⌝ }
 {
     if s.len() < 1 {
         return Item::End;
@@ -77,9 +71,8 @@ pub fn is_clear(s: &[u8]) -> bool
 }
 
 // The contents of the first whole element with this identifier.
-pub fn find(s: &[u8], identifier: u8) -> Part
-    ensures reads { λ r. ⌜ partSeen (now (s .entry)) r ≡ firstTaken identifier (now (s .entry)) ⌝ }
-    ensures within { λ r. ⌜ PartWithin (now (s .entry)) r ⌝ }
+pub fn find(s: &[u8], identifier: u8) -> MaybePart
+    ensures { λ r. ⌜ FindsFirst identifier (now (s .entry)) r ⌝ }
 {
     let mut at = 0;
     loop {
@@ -94,28 +87,27 @@ pub fn find(s: &[u8], identifier: u8) -> Part
         if met == identifier {
             let from = at + start;
             let to = at + end;
-            return Part::Between {
+            return MaybePart::Between {
                 start: from,
                 end: to,
             };
         }
         at += end;
     }
-    Part::Nothing
+    MaybePart::Nothing
 }
 
 // Step 4: the Facility value, if nothing behind it must be understood.
-pub fn read_required(s: &[u8], kind: u8) -> Body
-    ensures reads { λ r. ⌜ bodySeen (now (s .entry)) r ≡ required kind (now (s .entry)) ⌝ }
-    ensures within { λ r. ⌜ BodyWithin (now (s .entry)) r ⌝ }
+pub fn read_required(s: &[u8], kind: u8) -> MaybePart
+    ensures { λ r. ⌜ ReadsRequired kind (now (s .entry)) r ⌝ }
 {
-    let Body::Facility { start, end } = super::layout::read_mandatory(s, kind) else {
-        return Body::Missing;
+    let MaybePart::Between { start, end } = super::layout::read_mandatory(s, kind) else {
+        return MaybePart::Nothing;
     };
     if !is_clear(&s[end..]) {
-        return Body::Missing;
+        return MaybePart::Nothing;
     }
-    Body::Facility {
+    MaybePart::Between {
         start: start,
         end: end,
     }

@@ -3,3 +3,4 @@ pub mod PartLaws
 pub mod SpliceLaws
 pub mod ReaderLaws
 pub mod TestLaws
+pub mod Determined

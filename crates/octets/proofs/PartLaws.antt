@@ -5,6 +5,9 @@ use mathlib.Core.List.{List, [], _∷_}
 use native.Mathlib.Omega.{arith}
 use native.Mathlib.Nat.{sub-zero}
 use lib.ListN.{length, take, drop, getD, length-take, length-drop, drop-of-length-le}
+use mathlib.Core.Bool.{Bool, true, false}
+use lib.Dec.{leb}
+use borrow.Author.Tests.{leb-true, leb-false}
 use lib.Seq.{take-all, take-nil, take-take, drop-nil, drop-drop, getD-take, getD-drop}
 use Rattle.octets.specs.Part.{between}
 
@@ -36,3 +39,29 @@ from-taken zero to s = rw sub-zero
 from-taken (suc from) zero s = let h : zero - suc from ≡ zero = omega arith in rw (h, drop-nil)
 from-taken (suc from) (suc to) [] = rw take-nil
 from-taken (suc from) (suc to) (x ∷ s) = let h : suc to - suc from ≡ to - from = omega arith in rw h (from-taken from to s)
+
+-- places past the end stand for the end
+pub clamped : (from to : ℕ) (s : List ℕ) → between (min from (min to (length s))) (min to (length s)) s ≡ between from to s
+clamped from to s = go (leb from (min to (length s))) refl (leb to (length s)) refl
+  where
+    go : (b : Bool) → leb from (min to (length s)) ≡ b → (c : Bool) → leb to (length s) ≡ c → between (min from (min to (length s))) (min to (length s)) s ≡ between from to s
+    go true p true q =
+        let l = leb-true from (min to (length s)) p in
+        let h = leb-true to (length s) q in
+        let e : min to (length s) ≡ to = omega arith in
+        let f : min from to ≡ from = omega arith in
+        rw (e, f)
+    go true p false q =
+        let l = leb-true from (min to (length s)) p in
+        let h = leb-false to (length s) q in
+        let e : min to (length s) ≡ length s = omega arith in
+        let f : min from (length s) ≡ from = omega arith in
+        rw (e, f, to-end from to s (omega arith), rest-part from s)
+    go false p c q =
+        let l = leb-false from (min to (length s)) p in
+        let e : min from (min to (length s)) ≡ min to (length s) = omega arith in
+        rw (e, none-between (min to (length s)) (min to (length s)) s (omega arith)) (sym (outside c q))
+      where
+        outside : (d : Bool) → leb to (length s) ≡ d → between from to s ≡ []
+        outside true r = let l = leb-false from (min to (length s)) p in let h = leb-true to (length s) r in none-between from to s (omega arith)
+        outside false r = let l = leb-false from (min to (length s)) p in let h = leb-false to (length s) r in past-end from to s (omega arith)

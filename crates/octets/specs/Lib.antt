@@ -2,3 +2,5 @@ pub mod Octets
 pub mod Part
 pub mod Splice
 pub mod Reader
+pub mod Seen
+pub mod Unless

@@ -8,12 +8,14 @@ use Rattle.octets.specs.Part.{between}
 use Rattle.octets.specs.Reader.{Taken}
 use Rattle.octets.proofs.PartLaws.{length-between}
 use Rattle.octets.proofs.ReaderLaws.{sound-inj}
-use Rattle.parameters.specs.Parameter.{Text}
-use Rattle.parameters.specs.Seen.{contentsSeen, ContentsWithin, octetsSeen, OctetsWithin, ussdSeen, UssdWithin}
+use Rattle.parameters.specs.Parameter.{mistyped, Text}
+use Rattle.parameters.specs.Seen.{contentsSeen, ContentsWithin, StringWithin, ussdSeen, UssdWithin}
 use Rattle.parameters.specs.declared.one.Contents.{Contents}
 use Rattle.parameters.specs.declared.one.Contents.the-variants.{From}
-use Rattle.parameters.specs.declared.text.Octets.{Octets}
-use Rattle.parameters.specs.declared.text.Octets.the-variants.{Between}
+use Rattle.octets.specs.Seen.{partRead, PartWithin}
+use Rattle.octets.specs.declared.MaybePart.{MaybePart}
+use Rattle.octets.specs.declared.MaybePart.the-variants.{Nothing, Between}
+use Rattle.octets.proofs.Determined.{read-determined}
 use Rattle.parameters.specs.declared.text.Ussd.{Ussd}
 use Rattle.parameters.specs.declared.text.Ussd.the-variants.{Says}
 
@@ -31,15 +33,12 @@ contents-determined s Contents.Refused (From j) a b e = cc
 contents-determined s (From i) Contents.Refused a b e = cc
 contents-determined s (From i) (From j) a b e = ap From (same-end s i j a b (sound-inj e))
 
-pub octets-determined : (s : List ℕ) (low : ℕ) (r q : Octets) → OctetsWithin s low r → OctetsWithin s low q → octetsSeen s r ≡ octetsSeen s q → r ≡ q
-octets-determined s low Octets.Refused Octets.Refused a b e = refl
-octets-determined s low Octets.Refused (Between k l) a b e = cc
-octets-determined s low (Between i j) Octets.Refused a b e = cc
-octets-determined s low (Between i j) (Between k l) a b e =
-    let g = sound-inj e in
-    let x = same-end s j l (a .1) (b .1) (ap (λ (h : Taken (List ℕ)). h .rest) g) in
-    let y = same-start s i j k l (omega arith) (omega arith) (a .1) (b .1) x (ap (λ (h : Taken (List ℕ)). h .value) g) in
-    λ n. Between (y n) (x n)
+pub string-determined : (low : ℕ) (s : List ℕ) (r q : MaybePart) → StringWithin low s r → StringWithin low s q → partRead mistyped s r ≡ partRead mistyped s q → r ≡ q
+string-determined low s r q a b e = read-determined mistyped s r q (within r a) (within q b) e
+  where
+    within : (p : MaybePart) → StringWithin low s p → PartWithin s p
+    within Nothing h = tt
+    within (Between i j) h = (omega arith, h .1)
 
 pub ussd-determined : (s : List ℕ) (r q : Ussd) → UssdWithin s r → UssdWithin s q → ussdSeen s r ≡ ussdSeen s q → r ≡ q
 ussd-determined s Ussd.Refused Ussd.Refused a b e = refl

@@ -11,7 +11,7 @@ use Rattle.octets.proofs.ReaderLaws.{sound-inj, not-sound, through, passed, IsL
 use Rattle.elements.specs.Element.{refusedTag, element, row, written}
 use Rattle.elements.proofs.ElementLaws.{element-local, written-reads-back}
 use Rattle.elements.proofs.RowLaws.{row-append}
-use Rattle.parameters.specs.Parameter.{mistyped, isSound, holding, string, Text, text, ussdContents, ussd, inside}
+use Rattle.parameters.specs.Parameter.{mistyped, isSound, holding, string, Text, text, ussdContents, ussd, contentsAre}
 use Rattle.parameters.specs.Seen.{refusal}
 
 pub string-local : (low high : ℕ) → IsLocal (string low high)
@@ -72,5 +72,5 @@ told f h (sound a) q e = ap f e
 pub told-isSound : {A : Type 0} (o q : Answer A) → q ≡ refusal o → isSound q ≡ isSound o
 told-isSound = told isSound (λ n. refl)
 
-pub told-inside : (test : List ℕ → Bool) (o q : Answer (List ℕ)) → q ≡ refusal o → inside q test ≡ inside o test
-told-inside test = told (λ o. inside o test) (λ n. refl)
+pub told-inside : (test : List ℕ → Bool) (o q : Answer (List ℕ)) → q ≡ refusal o → contentsAre q test ≡ contentsAre o test
+told-inside test = told (λ o. contentsAre o test) (λ n. refl)

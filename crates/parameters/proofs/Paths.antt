@@ -2,7 +2,7 @@
 use Prim.Native.Nat.{ℕ, zero, suc, _+_, _-_, _≤_, _<_}
 use mathlib.Core.Path.{_≡_, refl, sym, _∙_}
 use mathlib.Core.List.{List, [], _∷_}
-use mathlib.Core.Bool.{Bool, true, false, _&&_, _||_}
+use mathlib.Core.Bool.{Bool, true, false, _&&_, _||_, and-false}
 use native.Mathlib.Nat.{add-zero, le-of-suc-le-suc}
 use native.Mathlib.Omega.{arith}
 use lib.ListN.{length, getD, drop, length-drop}
@@ -10,16 +10,16 @@ use lib.Seq.{drop-drop, getD-drop}
 use lib.Dec.{leb, eqb, eqb·zero-suc, eqb·suc-zero, eqb·suc-suc}
 use borrow.Author.Tests.{le-leb, lt-leb, eq-eqb, ne-eqb}
 use Rattle.octets.specs.Part.{between}
-use Rattle.octets.specs.Reader.{Answer, fault, sound, Taken, andThen, check, isEmpty}
+use Rattle.octets.specs.Reader.{fault, sound, check, isEmpty}
 use Rattle.octets.proofs.PartLaws.{length-between, getD-between, to-end}
-use Rattle.elements.specs.Element.{Element, element, row}
-use Rattle.elements.proofs.ElementLaws.{first-tag}
+use Rattle.elements.specs.Element.{element, row}
 use Rattle.elements.specs.Found.{seen}
 use Rattle.elements.specs.declared.Found.the-variants.{Whole}
-use Rattle.parameters.specs.Parameter.{mistyped, isSound, one, holding, string, text, ussdContents, ussd, isGuidance, guidance, basicService, ssForBsContents, inside}
-use Rattle.parameters.specs.Seen.{refusal, contentsSeen, octetsSeen, ussdSeen}
+use Rattle.parameters.specs.Parameter.{mistyped, isSound, one, holding, string, text, ussdContents, ussd, isGuidance, guidance, basicService, ssForBsContents, contentsAre}
+use Rattle.parameters.specs.Seen.{refusal, contentsSeen, ussdSeen}
+use Rattle.octets.specs.Seen.{partRead}
 use Rattle.parameters.specs.declared.one.Contents.the-variants.{From}
-use Rattle.parameters.specs.declared.text.Octets.the-variants.{Between}
+use Rattle.octets.specs.declared.MaybePart.the-variants.{Between}
 use Rattle.parameters.specs.declared.text.Ussd.the-variants.{Says}
 use Rattle.parameters.proofs.ParameterLaws.{told-sound, told-fault, told-inside}
 
@@ -39,36 +39,9 @@ sound-check : {A : Type 0} (b : Bool) (n : ℕ) (a : A) → isSound (check b n (
 sound-check true n a = refl
 sound-check false n a = refl
 
-and-false : (b : Bool) → b && false ≡ false
-and-false true = refl
-and-false false = refl
-
 -- a part of what lies behind k
 behind : (k a e : ℕ) (s : List ℕ) → between (k + a) (k + e) s ≡ between a e (drop k s)
 behind k a e s = let d : k + e - (k + a) ≡ e - a = omega arith in rw (d, drop-drop)
-
-not-held : (b : Bool) (v : Element) (tag : ℕ) → (v .tag ≡ tag → ⊥)
-    → fault mistyped ≡ refusal (andThen (check b mistyped (sound v)) (λ e. check (eqb (e .tag) tag) mistyped (sound (e .contents))))
-not-held true v tag n = rw (ne-eqb (v .tag) tag n)
-not-held false v tag n = refl
-
--- the first octet is another than the tag that must stand there
-module _ (s : List ℕ) (tag : ℕ) (d : getD s 0 0 ≡ tag → ⊥) where
-  other-held : (o : Answer (Taken Element)) → element s ≡ o → fault mistyped ≡ refusal (holding tag s)
-  other-held (fault n) q = rw q
-  other-held (sound g) q = rw q (not-held (isEmpty (g .rest)) (g .value) tag (λ e. d (sym (first-tag s g q) ∙ e)))
-
-  pub other-first : fault mistyped ≡ refusal (holding tag s)
-  other-first = other-held (element s) refl
-
-module _ (s : List ℕ) (low high : ℕ) (d : getD s 0 0 ≡ 0x04 → ⊥) where
-  other-string : (o : Answer (Taken Element)) → element s ≡ o → fault mistyped ≡ refusal (string low high s)
-  unfolding string
-  other-string (fault n) q = rw q
-  other-string (sound g) q = rw (q, ne-eqb (g .value .tag) 0x04 (λ e. d (sym (first-tag s g q) ∙ e)))
-
-  pub other-first-string : fault mistyped ≡ refusal (string low high s)
-  other-first-string = other-string (element s) refl
 
 module _ (s : List ℕ) where
   -- no element can be read
@@ -115,7 +88,7 @@ module _ (s : List ℕ) where
         unfolding string
         string-long g = rw (← q, eq-eqb t 0x04 f, length-between a e s l, lt-leb (e - a) high g, and-false)
 
-        pub string-held : low ≤ e - a → e - a ≤ high → octetsSeen s (Between a e) ≡ refusal (string low high s)
+        pub string-held : low ≤ e - a → e - a ≤ high → partRead mistyped s (Between a e) ≡ refusal (string low high s)
         unfolding string
         string-held g k = rw (← q, eq-eqb t 0x04 f, length-between a e s l, le-leb low (e - a) g, le-leb (e - a) high k)
 
@@ -134,7 +107,7 @@ module _ (s : List ℕ) where
   no-code q = told-fault (string 1 1 s) q λ n r. rw r
 
   -- an octet string from a to e, first in the contents
-  module _ (a e : ℕ) (p : octetsSeen s (Between a e) ≡ refusal (string 1 1 s)) where
+  module _ (a e : ℕ) (p : partRead mistyped s (Between a e) ≡ refusal (string 1 1 s)) where
     pub code-followed : (b r : Bool) → b ≡ basicService (element (drop e s)) → r ≡ row (drop e s) → b && r ≡ isSound (ssForBsContents s)
     unfolding ssForBsContents
     code-followed b r f g = rw (told-sound (string 1 1 s) _ p, ← f, ← g) (sym (sound-check (b && r) mistyped _))
@@ -144,7 +117,7 @@ module _ (s : List ℕ) where
     no-string q = told-fault (string 1 160 (drop e s)) q λ n r. rw (told-sound (string 1 1 s) _ p, r)
 
     -- an octet string from b to f behind it
-    module _ (b f : ℕ) (q : octetsSeen (drop e s) (Between b f) ≡ refusal (string 1 160 (drop e s))) where
+    module _ (b f : ℕ) (q : partRead mistyped (drop e s) (Between b f) ≡ refusal (string 1 160 (drop e s))) where
       pub bad-tail : false ≡ row (drop (e + f) s) → fault mistyped ≡ refusal (ussdContents s)
       unfolding ussdContents text
       bad-tail k = rw (told-sound (string 1 1 s) _ p, told-sound (string 1 160 (drop e s)) _ q, drop-drop f e s, ← k)
@@ -171,7 +144,7 @@ module _ (p : List ℕ) where
     ussd-says scheme a e f = rw (told-sound (holding 0x30 p) _ q, behind k a e p, ← drop-drop e k p) f
 
   -- Password and service code are told by their lengths
-  pub held-length : (tag n k : ℕ) → contentsSeen p (From k) ≡ refusal (holding tag p) → eqb (length p - k) n ≡ inside (holding tag p) (λ c. eqb (length c) n)
+  pub held-length : (tag n k : ℕ) → contentsSeen p (From k) ≡ refusal (holding tag p) → eqb (length p - k) n ≡ contentsAre (holding tag p) (λ c. eqb (length c) n)
   held-length tag n k q = rw (← length-drop k p) (told-inside (λ c. eqb (length c) n) (holding tag p) _ q)
 
   module _ (k : ℕ) (q : contentsSeen p (From k) ≡ refusal (holding 0x0A p)) where

@@ -8,7 +8,8 @@ use lib.Dec.{leb, eqb}
 use Rattle.octets.specs.Reader.{Answer, fault, sound, Taken, Reader, andThen, seq, done, check, need, alone}
 use Rattle.elements.specs.Element.{Element, element, row}
 
--- the one number of any fault inside a parameter: "any fault inside it, its tail's elements included, is step 6's 'parameter'"
+-- A parameter that is not of its kind. An element in it that is missing or can't be read keeps its own number, and nobody is
+-- told which it was: "any fault inside it, its tail's elements included, is step 6's 'parameter'".
 abbrev pub mistyped : ℕ
 mistyped = 2
 
@@ -72,18 +73,19 @@ basicService (sound g) = cond (eqb (g .value .tag) 0x82 || eqb (g .value .tag) 0
 unfoldable pub ssForBsContents : List ℕ → Answer (Taken (List ℕ))
 ssForBsContents s = andThen (string 1 1 s) (λ g. check (basicService (element (g .rest)) && row (g .rest)) mistyped (sound g))
 
-abbrev pub inside : Answer (List ℕ) → (List ℕ → Bool) → Bool
-inside (fault n) test = false
-inside (sound c) test = test c
+-- whether there are contents, and they pass the test
+abbrev pub contentsAre : Answer (List ℕ) → (List ℕ → Bool) → Bool
+contentsAre (fault n) test = false
+contentsAre (sound c) test = test c
 
 abbrev pub guidance : List ℕ → Bool
-guidance p = inside (holding 0x0A p) isGuidance
+guidance p = contentsAre (holding 0x0A p) isGuidance
 
 abbrev pub password : List ℕ → Bool
-password p = inside (holding 0x12 p) isPassword
+password p = contentsAre (holding 0x12 p) isPassword
 
 abbrev pub serviceCode : List ℕ → Bool
-serviceCode p = inside (holding 0x04 p) isServiceCode
+serviceCode p = contentsAre (holding 0x04 p) isServiceCode
 
 abbrev pub ssForBs : List ℕ → Bool
-ssForBs p = inside (holding 0x30 p) (λ c. isSound (ssForBsContents c))
+ssForBs p = contentsAre (holding 0x30 p) (λ c. isSound (ssForBsContents c))

@@ -1,8 +1,8 @@
 // The kinds of parameter, each decided for a part that should be all of it.
 use super::one::Contents;
-use super::text::Octets;
 use super::text::Ussd;
 use elements::Found;
+use octets::MaybePart;
 ghost use mathlib.Core.Path.{_≡_};
 ghost use Rattle.parameters.specs.Parameter.{isSound, ussd, guidance, password, serviceCode, ssForBs, ssForBsContents, basicService};
 ghost use Rattle.elements.specs.Element.{element};
@@ -67,7 +67,7 @@ fn is_basic_service(s: &[u8]) -> bool
 fn is_ss_for_bs_contents(s: &[u8]) -> bool
     ensures { λ r. ⌜ r ≡ isSound (ssForBsContents (now (s .entry))) ⌝ }
 {
-    let Octets::Between { start: _, end } = super::text::read_string(s, 1, 1) else {
+    let MaybePart::Between { start: _, end } = super::text::read_string(s, 1, 1) else {
         return false;
     };
     is_basic_service(&s[end..]) & elements::is_row(&s[end..])

@@ -1,10 +1,8 @@
 // Which parameter an operation takes, in each of the places where a parameter stands.
 use super::text::Ussd;
 ghost use mathlib.Core.Path.{_≡_};
-ghost use mathlib.Core.Bool.{true, _||_};
-ghost use lib.Dec.{eqb};
-ghost use Rattle.parameters.specs.Suits.{isUssd, noneOrOne, noneOrUssd, suits, InvokeReceived, ResultReceived, InvokeWritten, ResultWritten};
-ghost use Rattle.parameters.specs.Seen.{TextSeen, withoutText};
+ghost use Rattle.parameters.specs.Suits.{noneOrOne, noneOrUssd, suits, InvokeWritten, ResultWritten};
+ghost use Rattle.parameters.specs.Seen.{withoutText, WeighsText, WeighsInvoke, WeighsResult};
 
 // Whether a received parameter suits its operation, and the text that was read to tell it.
 pub struct Suited {
@@ -36,8 +34,7 @@ fn without_text(suited: bool) -> Suited
 
 // A parameter that should be a text.
 fn read_text(p: &[u8]) -> Suited
-    ensures suited { λ r. ⌜ r .suited ≡ isUssd (now (p .entry)) ⌝ }
-    ensures text { λ r. ⌜ TextSeen true (now (p .entry)) (r .text) ⌝ }
+    ensures { λ r. ⌜ WeighsText (now (p .entry)) r ⌝ }
 {
     // field by field: a whole enum would be copied through memory
     let Ussd::Says { scheme, start, end } = super::text::read_ussd(p) else {
@@ -55,8 +52,7 @@ fn read_text(p: &[u8]) -> Suited
 
 // An invoke that is received.
 pub fn suits_invoke_received(operation: u8, p: &[u8]) -> Suited
-    ensures suited { λ r. ⌜ r .suited ≡ suits InvokeReceived operation (now (p .entry)) ⌝ }
-    ensures text { λ r. ⌜ TextSeen (eqb operation 60 || eqb operation 61) (now (p .entry)) (r .text) ⌝ }
+    ensures { λ r. ⌜ WeighsInvoke operation (now (p .entry)) r ⌝ }
 {
     if operation == 18 {
         return without_text(super::kinds::is_guidance(p));
@@ -69,8 +65,7 @@ pub fn suits_invoke_received(operation: u8, p: &[u8]) -> Suited
 
 // A result that is received; the operation is the one that waits.
 pub fn suits_result_received(operation: u8, p: &[u8]) -> Suited
-    ensures suited { λ r. ⌜ r .suited ≡ suits ResultReceived operation (now (p .entry)) ⌝ }
-    ensures text { λ r. ⌜ TextSeen (eqb operation 59) (now (p .entry)) (r .text) ⌝ }
+    ensures { λ r. ⌜ WeighsResult operation (now (p .entry)) r ⌝ }
 {
     if operation == 17 {
         return without_text(super::kinds::is_password(p));

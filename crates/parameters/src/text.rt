@@ -1,14 +1,8 @@
 // The text of a USSD parameter: coding scheme, string, tail.
 use super::one::Contents;
 use elements::Found;
-ghost use mathlib.Core.Path.{_≡_};
-ghost use Rattle.parameters.specs.Parameter.{string, ussd, ussdContents};
-ghost use Rattle.parameters.specs.Seen.{refusal, octetsSeen, OctetsWithin, ussdSeen, UssdWithin};
-
-pub enum Octets {
-    Refused,
-    Between { start: usize, end: usize },
-}
+use octets::MaybePart;
+ghost use Rattle.parameters.specs.Seen.{ReadsString, ReadsUssdContents, ReadsUssd};
 
 // The string's places; the tail goes from its end to the end of the part.
 pub enum Ussd {
@@ -21,30 +15,22 @@ pub enum Ussd {
 }
 
 // The octet string at the front of a part, of so many octets.
-pub fn read_string(s: &[u8], low: usize, high: usize) -> Octets
-    ensures reads { λ r. ⌜ octetsSeen (now (s .entry)) r ≡ refusal (string low high (now (s .entry))) ⌝ }
-    ensures within { λ r. ⌜ OctetsWithin (now (s .entry)) low r ⌝ }
+pub fn read_string(s: &[u8], low: usize, high: usize) -> MaybePart
+    ensures { λ r. ⌜ ReadsString low high (now (s .entry)) r ⌝ }
 {
-    // told at once, so that the tag need not be looked at again
-    if s.len() < 1 {
-        return Octets::Refused;
-    }
-    if s[0] != 0x04 {
-        return Octets::Refused;
-    }
     let Found::Whole { tag, start, end } = elements::read_element(s) else {
-        return Octets::Refused;
+        return MaybePart::Nothing;
     };
     if tag != 0x04 {
-        return Octets::Refused;
+        return MaybePart::Nothing;
     }
     if end - start < low {
-        return Octets::Refused;
+        return MaybePart::Nothing;
     }
     if high < end - start {
-        return Octets::Refused;
+        return MaybePart::Nothing;
     }
-    Octets::Between {
+    MaybePart::Between {
         start: start,
         end: end,
     }
@@ -52,13 +38,12 @@ pub fn read_string(s: &[u8], low: usize, high: usize) -> Octets
 
 // The contents of a USSD parameter.
 fn read_contents(s: &[u8]) -> Ussd
-    ensures reads { λ r. ⌜ ussdSeen (now (s .entry)) r ≡ refusal (ussdContents (now (s .entry))) ⌝ }
-    ensures within { λ r. ⌜ UssdWithin (now (s .entry)) r ⌝ }
+    ensures { λ r. ⌜ ReadsUssdContents (now (s .entry)) r ⌝ }
 {
-    let Octets::Between { start: a, end: e } = read_string(s, 1, 1) else {
+    let MaybePart::Between { start: a, end: e } = read_string(s, 1, 1) else {
         return Ussd::Refused;
     };
-    let Octets::Between { start: b, end: f } = read_string(&s[e..], 1, 160) else {
+    let MaybePart::Between { start: b, end: f } = read_string(&s[e..], 1, 160) else {
         return Ussd::Refused;
     };
     if !elements::is_row(&s[e + f..]) {
@@ -73,8 +58,7 @@ fn read_contents(s: &[u8]) -> Ussd
 
 // A USSD-Arg or USSD-Res that is all of a part.
 pub fn read_ussd(p: &[u8]) -> Ussd
-    ensures reads { λ r. ⌜ ussdSeen (now (p .entry)) r ≡ refusal (ussd (now (p .entry))) ⌝ }
-    ensures within { λ r. ⌜ UssdWithin (now (p .entry)) r ⌝ }
+    ensures { λ r. ⌜ ReadsUssd (now (p .entry)) r ⌝ }
 {
     let Contents::From(at) = super::one::contents_of(p, 0x30) else {
         return Ussd::Refused;

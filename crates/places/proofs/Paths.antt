@@ -2,24 +2,22 @@
 use Prim.Native.Nat.{ℕ, _+_, _-_, _≤_, _<_}
 use mathlib.Core.Path.{_≡_, refl, sym, ap, _∙_}
 use mathlib.Core.List.{List, [], _∷_}
-use mathlib.Core.Bool.{Bool, true, false, _&&_}
+use mathlib.Core.Bool.{Bool, true, false}
 use mathlib.Core.Option.{none, some}
 use native.Mathlib.Omega.{arith}
 use native.Mathlib.Nat.{add-zero}
 use lib.ListN.{length, getD, drop, length-drop}
 use lib.IntN.{ℤ}
-use lib.Seq.{drop-drop, getD-drop}
-use lib.Dec.{leb, eqb}
-use borrow.Author.Tests.{leb-true, eqb-true, eq-eqb, ne-eqb}
+use lib.Seq.{drop-drop}
+use lib.Dec.{eqb}
+use borrow.Author.Tests.{eq-eqb, ne-eqb}
 use Rattle.octets.specs.Part.{between}
 use Rattle.octets.specs.Reader.{fault, sound, took, isEmpty}
 use Rattle.octets.proofs.PartLaws.{length-between, getD-between}
-use Rattle.octets.proofs.TestLaws.{both}
-use Rattle.elements.specs.Element.{refusedTag, Element, element}
-use Rattle.elements.proofs.Paths.{short, whole}
+use Rattle.elements.specs.Element.{Element, element}
 use Rattle.codes.specs.Ids.{idOf}
-use Rattle.places.specs.Places.{misplaced, octetIn, single, parameter, Called, called, Coded, coded, rejected}
-use Rattle.places.specs.Seen.{last, usual}
+use Rattle.places.specs.Places.{misplaced, octetIn, single, parameter, CalledPlaces, called, Coded, coded, rejected}
+use Rattle.places.specs.Seen.{last}
 use Rattle.places.proofs.Left.{nothing-left, something-left, left-none, left-some, last-is}
 
 -- the octet of an element that lies between two places
@@ -89,31 +87,6 @@ module _ (s : List ℕ) (t a e : ℕ) (h : a ≤ e) (l : e ≤ length s) (q : to
     unfolding called
     called-linked i j o k z =
         rw (j, ← q, eq-eqb t 0x80 f, length-between a e s l, eq-eqb (e - a) 1 g, getD-between a e s 0 (omega arith), add-zero, ← z, drop-drop k e s)
-
--- the usual form: its element has the tag 02 and one octet
-module _ (s : List ℕ) (u : usual s ≡ true) where
-  usual-tests : ((leb 3 (length s) ≡ true) × (eqb (getD s 0 0) 0x02 ≡ true)) × (eqb (getD s 1 0) 0x01 ≡ true)
-  usual-tests =
-      let w = both (leb 3 (length s) && eqb (getD s 0 0) 0x02) (eqb (getD s 1 0) 0x01) u in
-      (both (leb 3 (length s)) (eqb (getD s 0 0) 0x02) (w .0), w .1)
-
-  pub usual-long : 3 ≤ length s
-  usual-long = leb-true 3 (length s) (usual-tests .0 .0)
-
-  usual-element : took (record { tag = 0x02; contents = between 2 3 s }) (drop 3 s) ≡ element s
-  usual-element =
-      let t : getD s 0 0 ≡ 0x02 = eqb-true (getD s 0 0) 0x02 (usual-tests .0 .1) in
-      let n : getD (drop 1 s) 0 0 ≡ 0x01 = getD-drop 1 s 0 0 ∙ eqb-true (getD s 1 0) 0x01 (usual-tests .1) in
-      let j : 0 < length (drop 1 s) = rw (length-drop 1 s) (omega (arith, usual-long)) in
-      let h : refusedTag (getD s 0 0) ≡ false = rw t refl in
-      let e = short (drop 1 s) j 0x01 (sym n) (omega arith) in
-      rw t at (whole s (omega (arith, usual-long)) 1 1 h e (omega (arith, usual-long)) (omega (arith, usual-long)))
-
-  pub usual-single : (tag : ℕ) → tag ≡ 0x02 → took (getD s 2 0) (drop 3 s) ≡ single tag s
-  usual-single tag f = single-is s 0x02 2 3 (omega arith) usual-long usual-element tag (sym f) refl
-
-  pub usual-called : took (record { linked = none; operation = getD s 2 0 }) (drop 3 s) ≡ called s
-  usual-called = called-plain s 0x02 2 3 (omega arith) usual-long usual-element refl refl
 
 pub called-none : (s : List ℕ) (n : ℕ) → fault n ≡ element s → fault n ≡ called s
 unfolding called

@@ -26,12 +26,12 @@ single tag = seq element (λ e. octetIn tag e)
 unfoldable pub parameter : List ℕ → Answer (List ℕ)
 parameter s = cond (isEmpty s) (sound []) (andThen (alone misplaced (element s)) (λ e. sound s))
 
-pub record Called : Type 0 where
+pub record CalledPlaces : Type 0 where
   pub linked : Option ℤ
   pub operation : ℕ
 
 -- "optional 80 linked id; 02 operation"
-unfoldable pub called : Reader Called
+unfoldable pub called : Reader CalledPlaces
 called =
     seq element (λ e.
     cond (eqb (e .tag) 0x80)

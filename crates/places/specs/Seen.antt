@@ -1,16 +1,15 @@
--- What the code's answers say of the octets that were read. A parameter stands last, so it is told by its length.
+-- What the code's answers say of the octets that were read, and what is promised of them. A parameter stands last, so it is told by its length.
 use Prim.Native.Nat.{ℕ, _-_, _≤_}
+use mathlib.Core.Path.{_≡_}
 use mathlib.Core.List.{List}
-use mathlib.Core.Bool.{Bool, _&&_}
 use mathlib.Core.Option.{Option, none, some}
 use lib.IntN.{ℤ}
-use lib.ListN.{length, getD, drop}
-use lib.Dec.{leb, eqb}
+use lib.ListN.{length, drop}
 use Rattle.octets.specs.Reader.{Answer, fault, sound, Taken, took}
 use Rattle.elements.specs.Element.{missing, unreadable}
 use Rattle.elements.specs.declared.Found.{Found}
 use Rattle.elements.specs.declared.Found.the-variants.{Missing, Whole}
-use Rattle.places.specs.Places.{Called, Coded}
+use Rattle.places.specs.Places.{single, parameter, CalledPlaces, called, Coded, coded, rejected}
 use Rattle.places.specs.declared.Id.{Id}
 use Rattle.places.specs.declared.Single.{Single}
 use Rattle.places.specs.declared.Calls.{Calls}
@@ -32,10 +31,6 @@ idSeen (Id.Is id) = some id
 abbrev pub last : ℕ → List ℕ → List ℕ
 last n s = drop (length s - n) s
 
--- the usual form of a place of one octet: 02, 01, the octet
-abbrev pub usual : List ℕ → Bool
-usual s = leb 3 (length s) && eqb (getD s 0 0) 0x02 && eqb (getD s 1 0) 0x01
-
 abbrev pub singleSeen : List ℕ → Single → Answer (Taken ℕ)
 singleSeen s (Single.Fault n) = fault n
 singleSeen s (Single.Is octet end) = took octet (drop end s)
@@ -48,13 +43,19 @@ abbrev pub SingleWithin : List ℕ → Single → Type 0
 SingleWithin s (Single.Fault n) = Unit {0}
 SingleWithin s (Single.Is octet end) = end ≤ length s
 
-abbrev pub callsSeen : List ℕ → Calls → Answer (Taken Called)
+abbrev pub ReadsSingle : ℕ → List ℕ → Single → Type 0
+ReadsSingle tag s place = (singleSeen s place ≡ single tag s) × SingleWithin s place
+
+abbrev pub callsSeen : List ℕ → Calls → Answer (Taken CalledPlaces)
 callsSeen s (Calls.Fault n) = fault n
 callsSeen s (Calls.Is linked operation end) = took (record { linked = idSeen linked; operation = operation }) (drop end s)
 
 abbrev pub CallsWithin : List ℕ → Calls → Type 0
 CallsWithin s (Calls.Fault n) = Unit {0}
 CallsWithin s (Calls.Is linked operation end) = end ≤ length s
+
+abbrev pub ReadsCalls : List ℕ → Calls → Type 0
+ReadsCalls s places = (callsSeen s places ≡ called s) × CallsWithin s places
 
 abbrev pub callsFault : Calls → ℕ
 callsFault (Calls.Fault n) = n
@@ -64,6 +65,9 @@ callsFault (Calls.Is linked operation end) = 0
 abbrev pub lastSeen : List ℕ → Last → Answer (List ℕ)
 lastSeen s (Last.Fault n) = fault n
 lastSeen s Last.Parameter = sound s
+
+abbrev pub ReadsLast : List ℕ → Last → Type 0
+ReadsLast s last = lastSeen s last ≡ parameter s
 
 abbrev pub lastFault : Last → ℕ
 lastFault (Last.Fault n) = n
@@ -81,6 +85,9 @@ abbrev pub CodedWithin : List ℕ → Code → Type 0
 CodedWithin s (Code.Fault n) = Unit {0}
 CodedWithin s (Code.Is octet n) = n ≤ length s
 
+abbrev pub ReadsCoded : List ℕ → Code → Type 0
+ReadsCoded s places = (codedSeen s places ≡ coded s) × CodedWithin s places
+
 abbrev pub rejectedSeen : List ℕ → Rejected → Answer (Taken (Option ℤ))
 rejectedSeen s (Rejected.Fault n) = fault n
 rejectedSeen s (Rejected.Is id end) = took (idSeen id) (drop end s)
@@ -92,3 +99,6 @@ rejectedFault (Rejected.Is id end) = 0
 abbrev pub RejectedWithin : List ℕ → Rejected → Type 0
 RejectedWithin s (Rejected.Fault n) = Unit {0}
 RejectedWithin s (Rejected.Is id end) = end ≤ length s
+
+abbrev pub ReadsRejected : List ℕ → Rejected → Type 0
+ReadsRejected s place = (rejectedSeen s place ≡ rejected s) × RejectedWithin s place

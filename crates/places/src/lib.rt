@@ -1,8 +1,7 @@
 // The places of a component, each read from the front of a part; a fault leaves with its problem number.
 use elements::Found;
 ghost use mathlib.Core.Path.{_≡_};
-ghost use Rattle.places.specs.Places.{single, parameter, called, coded, rejected};
-ghost use Rattle.places.specs.Seen.{problemOf, faultOf, usual, singleSeen, SingleWithin, callsSeen, callsFault, CallsWithin, lastFault, lastSeen, codedSeen, codedFault, CodedWithin, rejectedSeen, rejectedFault, RejectedWithin};
+ghost use Rattle.places.specs.Seen.{problemOf, faultOf, callsFault, lastFault, codedFault, rejectedFault, ReadsSingle, ReadsCalls, ReadsLast, ReadsCoded, ReadsRejected};
 
 // An id that may be absent.
 pub enum Id {
@@ -55,27 +54,10 @@ pub fn problem_of(found: Found) -> u8
     }
 }
 
-// The usual form of an id or an operation, told at once: 02, 01 and the octet.
-fn is_usual(s: &[u8]) -> bool
-    ensures { λ r. ⌜ r ≡ usual (now (s .entry)) ⌝ }
-{
-    if s.len() < 3 {
-        return false;
-    }
-    (s[0] == 0x02) & (s[1] == 0x01)
-}
-
 // A place of one octet: an id, an operation or an error code.
 pub fn read_single(s: &[u8], tag: u8) -> Single
-    ensures reads { λ r. ⌜ singleSeen (now (s .entry)) r ≡ single tag (now (s .entry)) ⌝ }
-    ensures within { λ r. ⌜ SingleWithin (now (s .entry)) r ⌝ }
+    ensures { λ r. ⌜ ReadsSingle tag (now (s .entry)) r ⌝ }
 {
-    if (tag == 0x02) & is_usual(s) {
-        return Single::Is {
-            octet: s[2],
-            end: 3,
-        };
-    }
     let found = elements::read_element(s);
     let Found::Whole { tag: t, start, end } = found else {
         return Single::Fault(problem_of(found));
@@ -94,7 +76,7 @@ pub fn read_single(s: &[u8], tag: u8) -> Single
 
 // What is left: no parameter, or one and nothing behind it.
 pub fn read_last(s: &[u8]) -> Last
-    ensures { λ r. ⌜ lastSeen (now (s .entry)) r ≡ parameter (now (s .entry)) ⌝ }
+    ensures { λ r. ⌜ ReadsLast (now (s .entry)) r ⌝ }
 {
     if s.len() == 0 {
         return Last::Parameter;
@@ -160,16 +142,8 @@ pub fn code_fault(code: Code) -> u8
 
 // An optional linked id and the operation.
 pub fn read_calls(s: &[u8]) -> Calls
-    ensures reads { λ r. ⌜ callsSeen (now (s .entry)) r ≡ called (now (s .entry)) ⌝ }
-    ensures within { λ r. ⌜ CallsWithin (now (s .entry)) r ⌝ }
+    ensures { λ r. ⌜ ReadsCalls (now (s .entry)) r ⌝ }
 {
-    if is_usual(s) {
-        return Calls::Is {
-            linked: Id::Absent,
-            operation: s[2],
-            end: 3,
-        };
-    }
     let found = elements::read_element(s);
     let Found::Whole { tag, start, end } = found else {
         return Calls::Fault(problem_of(found));
@@ -200,8 +174,7 @@ pub fn read_calls(s: &[u8]) -> Calls
 
 // An operation or error code, and an optional parameter.
 pub fn read_coded(s: &[u8]) -> Code
-    ensures reads { λ r. ⌜ codedSeen (now (s .entry)) r ≡ coded (now (s .entry)) ⌝ }
-    ensures within { λ r. ⌜ CodedWithin (now (s .entry)) r ⌝ }
+    ensures { λ r. ⌜ ReadsCoded (now (s .entry)) r ⌝ }
 {
     let single = read_single(s, 0x02);
     let Single::Is { octet, end } = single else {
@@ -228,8 +201,7 @@ pub fn rejected_fault(rejected: Rejected) -> u8
 
 // The id of a Reject, or 05 00 in its place.
 pub fn read_rejected(s: &[u8]) -> Rejected
-    ensures reads { λ r. ⌜ rejectedSeen (now (s .entry)) r ≡ rejected (now (s .entry)) ⌝ }
-    ensures within { λ r. ⌜ RejectedWithin (now (s .entry)) r ⌝ }
+    ensures { λ r. ⌜ ReadsRejected (now (s .entry)) r ⌝ }
 {
     let found = elements::read_element(s);
     let Found::Whole { tag, start, end } = found else {

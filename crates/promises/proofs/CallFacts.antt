@@ -14,10 +14,10 @@ use Rattle.octets.specs.Reader.{Answer, fault, sound, andThen, check}
 use Rattle.codes.specs.Operations.{begins, waits}
 use Rattle.codes.specs.Errors.{listed}
 use Rattle.parameters.specs.Suits.{suits, noneOrOne, InvokeWritten, ResultWritten}
-use Rattle.table.specs.Table.{Waiting, place, named, entryAt, valid, lowestClosed, holdsOne, holds}
+use Rattle.table.specs.Table.{Waiting, entryNumber, named, entryAt, valid, lowestClosed, holdsOne, holds}
 use Rattle.table.proofs.TableLaws.{holds-at, valid-each, lowest-closed-is}
 use Rattle.judging.specs.StepSix.{among, full, operationOf, without}
-use Rattle.calling.specs.Calls.{Sending, orRefused, transaction, fitting, withoutPeer, begin, invokeWithin, sendResult, sendError, sendRelease}
+use Rattle.calling.specs.Calls.{Sending, orRefused, transaction, fitting, withoutPeer, sendBegin, sendInvoke, sendResult, sendError, sendRelease}
 use Rattle.promises.specs.OneVerdict.{isRefusal}
 use Rattle.promises.proofs.Held.{holds-open, own-of, peer-of, one-less, closed-holds}
 
@@ -31,9 +31,9 @@ named-most flag value k e = go (leb flag 1) (leb value 6) refl e
     placed true h = omega arith
     placed false h = omega arith
 
-    go : (a c : Bool) → leb value 6 ≡ c → cond (a && c) (some (place flag value)) none ≡ some k → k < 14
+    go : (a c : Bool) → leb value 6 ≡ c → cond (a && c) (some (entryNumber flag value)) none ≡ some k → k < 14
     go true true q e =
-        let h : place flag value ≡ k = cc in
+        let h : entryNumber flag value ≡ k = cc in
         let l = placed (eqb flag 1) (leb-true value 6 q) in
         omega arith
     go true false q e = never e
@@ -88,8 +88,8 @@ with-own (w ∷ ws) peer id o f a q = absurd (false≢true (sym f))
 
 module _ (t : List ℕ) (room : ℕ) where
   -- begin names the lowest closed own value
-  pub fine-begin : (o : ℕ) (id : ℤ) (p : List ℕ) → Fine t room (lowestClosed t) (begin t room o id p)
-  unfolding begin
+  pub fine-begin : (o : ℕ) (id : ℤ) (p : List ℕ) → Fine t room (lowestClosed t) (sendBegin t room o id p)
+  unfolding sendBegin
   fine-begin o id p =
       fine-check t room _ (valid t) 28 _ refl λ v.
       fine-check t room _ (begins o) 20 _ refl λ a.
@@ -114,8 +114,8 @@ module _ (t : List ℕ) (room : ℕ) where
         let h = holds-at t k v l in
         rw q (holds-open (entryAt t k .own) (without id (entryAt t k .peer)) (own-of (entryAt t k) h) (one-less waits id (entryAt t k .peer) (peer-of (entryAt t k) h)))
 
-    pub fine-invoke : (o : ℕ) (id : ℤ) (p : List ℕ) → Fine t room (named flag value) (invokeWithin t room flag value o id p)
-    unfolding invokeWithin
+    pub fine-invoke : (o : ℕ) (id : ℤ) (p : List ℕ) → Fine t room (named flag value) (sendInvoke t room flag value o id p)
+    unfolding sendInvoke
     fine-invoke o id p =
         fine-check t room _ (valid t) 28 _ refl λ v.
         fine-check t room _ (begins o) 20 _ refl λ a.

@@ -24,8 +24,9 @@ use Rattle.table.specs.Table.{Entry}
 use Rattle.judging.specs.StepSix.{Judged, problem, accepted, orProblem, among, full, linkedProblem, operationOf, isOurs, judgeInvoke, judgeResult}
 use Rattle.codes.specs.Operations.{serves}
 use Rattle.codes.specs.Problems.{invoke as invokeProblem, result as resultProblem}
-use Rattle.deciding.specs.Decision.{Decision, Shows, silent, withCause, released, taken, shownBy}
-use Rattle.deciding.specs.Steps.{shown, onJudged, stepSix, stepFive, onRequired, stepFour, isInvoke, exceptInvoke, onRelease, stepTwo, entryOf}
+use Rattle.components.specs.Shows.{Shows}
+use Rattle.deciding.specs.Decision.{Decision, silent, withCause, released, taken, shownBy}
+use Rattle.deciding.specs.Steps.{shown, onJudged, stepSix, fiveAndSix, onRequired, fourToSix, isInvoke, exceptInvoke, onRelease, stepTwo, pickedEntry}
 use Rattle.components.specs.Texts.{extensible, textOf}
 use Rattle.telephone.specs.Receive.{act, receive}
 use Rattle.promises.specs.LaterEdition.{LaterMessage, inRegister, inFacility, inRelease, SameButTail, CannotAlter}
@@ -158,18 +159,18 @@ module _ (c : Component) (x q : List ℕ) (g : Taken Text) (h : textOf c ≡ som
   ussd-later = later-text (parameterOf c) x q g l (text-is c g h .1) r
 
   five-later : {s t : List ℕ} (e : Entry) (behind rest : List ℕ) → LaterFacility (parameterOf c) q s t
-      → shownBy (stepFive e (facility s) behind) ≡ some (record { value = c; rest = rest })
-      → BothTaken c (withParameter q c) (stepFive e (facility s) behind) (stepFive e (facility t) behind)
-  unfolding stepFive
+      → shownBy (fiveAndSix e (facility s) behind) ≡ some (record { value = c; rest = rest })
+      → BothTaken c (withParameter q c) (fiveAndSix e (facility s) behind) (fiveAndSix e (facility t) behind)
+  unfolding fiveAndSix
   five-later {s} {t} e behind rest f k =
       let y = five-shows e (facility s) behind c rest k in
       let z = later-edition (parameterOf c) x q c g f l r (y .0) refl (text-is c g h .1) in
       rw (y .0, z .0) (six-later e c q behind _ (y .1) (text-is c g h .0) (rw ussd-later))
 
   four-later : {s t : List ℕ} (e : Entry) (type : ℕ) (behind rest : List ℕ) → LaterFacility (parameterOf c) q s t
-      → shownBy (stepFour e type (laid type s behind)) ≡ some (record { value = c; rest = rest })
-      → BothTaken c (withParameter q c) (stepFour e type (laid type s behind)) (stepFour e type (laid type t behind))
-  unfolding stepFour
+      → shownBy (fourToSix e type (laid type s behind)) ≡ some (record { value = c; rest = rest })
+      → BothTaken c (withParameter q c) (fourToSix e type (laid type s behind)) (fourToSix e type (laid type t behind))
+  unfolding fourToSix
   four-later {s} {t} e type behind rest f k = rw (required-is type s behind, required-is type t behind) (go (clear behind) (rw (required-is type s behind) at k))
     where
       go : (b : Bool) → shownBy (onRequired e (check b mandatoryMissing (took s behind))) ≡ some (record { value = c; rest = rest })
@@ -206,7 +207,7 @@ module _ (c : Component) (x q : List ℕ) (g : Taken Text) (h : textOf c ≡ som
       → BothReleased c (withParameter q c) (onRelease e (before ++ (0x1C ∷ length s ∷ (s ++ behind)))) (onRelease e (before ++ (0x1C ∷ length t ∷ (t ++ behind))))
   unfolding onRelease firstWhole
   onward-later {before} {s} {t} e behind rest p f k =
-      let v = shown-later (stepFive e (facility s) behind) (stepFive e (facility t) behind) rest (five-later e behind rest f) (rw (first-is s behind p) at k) in
+      let v = shown-later (fiveAndSix e (facility s) behind) (fiveAndSix e (facility t) behind) rest (five-later e behind rest f) (rw (first-is s behind p) at k) in
       record {
         behind = rest;
         cause = firstTaken 0x08 (before ++ (0x1C ∷ length s ∷ (s ++ behind)));
@@ -223,7 +224,7 @@ module _ (c : Component) (x q : List ℕ) (g : Taken Text) (h : textOf c ≡ som
   complete-later e f behind rest p y k = alike-held (e .isOpen) _ _ (silent 1) _ refl k λ k₁. bothReleased (onward-later e behind rest p y k₁)
 
   -- what is sent and kept does not depend on what is shown
-  outcome-later : (t b m m′ : List ℕ) (d d′ : Decision) → entryOf m′ ≡ entryOf m → Alike c (withParameter q c) d d′
+  outcome-later : (t b m m′ : List ℕ) (d d′ : Decision) → pickedEntry m′ ≡ pickedEntry m → Alike c (withParameter q c) d d′
       → SameButTail (act t m b d) (act t m′ b d′) c g x q
   unfolding act
   outcome-later t b m m′ d d′ e (bothTaken y) =
@@ -255,7 +256,7 @@ module _ (c : Component) (x q : List ℕ) (g : Taken Text) (h : textOf c ≡ som
       → length (first ∷ type ∷ s′) ≤ 255
       → ((e : Entry) → shownBy (stepTwo e (flag first) type s) ≡ some (record { value = c; rest = rest }) → Alike c (withParameter q c) (stepTwo e (flag first) type s) (stepTwo e (flag first) type s′))
       → SameButTail (receive t (first ∷ type ∷ s) b) (receive t (first ∷ type ∷ s′) b) c g x q
-  unfolding receive entryOf
+  unfolding receive pickedEntry
   message-later t b first type s s′ rest k n step =
       let y = receive-shows t (first ∷ type ∷ s) b _ k in
       let z = goes-on-later t (length b) first type s s′ (y .0) n in

@@ -29,7 +29,7 @@ use Rattle.messages.specs.Scan.{clear, required, firstTaken, firstWhole, conten
 use Rattle.messages.proofs.ScanLaws.{laid, mandatory-is, first-found}
 use Rattle.table.specs.Table.{Entry}
 use Rattle.deciding.specs.Decision.{silent, withCause, shownBy}
-use Rattle.deciding.specs.Steps.{onRequired, stepFour, stepFive, inRelease as shownInRelease, onRelease, byType, stepTwo}
+use Rattle.deciding.specs.Steps.{onRequired, fourToSix, fiveAndSix, inRelease as shownInRelease, onRelease, byType, stepTwo}
 use Rattle.components.specs.Texts.{extensible}
 use Rattle.promises.specs.LaterEdition.{LaterMessage, inRegister, inFacility, inRelease, Exists}
 use Rattle.promises.proofs.Shown.{nothing-shown, held, failed, GoesOn, further, receive-shows, five-shows, except-shows, text-is}
@@ -190,9 +190,9 @@ required-was type s g e =
 
 module _ (q : List ℕ) (c : Component) (h : extensible c ≡ true) (rest : List ℕ) where
   -- where the Facility value of a REGISTER or FACILITY stands
-  four-exists : {C : Type 0} (e : Entry) (type : ℕ) (s : List ℕ) → shownBy (stepFour e type s) ≡ some (record { value = c; rest = rest })
+  four-exists : {C : Type 0} (e : Entry) (type : ℕ) (s : List ℕ) → shownBy (fourToSix e type s) ≡ some (record { value = c; rest = rest })
       → ((v behind t : List ℕ) → s ≡ laid type v behind → LaterFacility (parameterOf c) q v t → C) → C
-  unfolding stepFour
+  unfolding fourToSix
   four-exists {C} e type s k next = go (required type s) refl k
     where
       go : (o : Answer (Taken (List ℕ))) → required type s ≡ o → shownBy (onRequired e o) ≡ some (record { value = c; rest = rest }) → C
@@ -211,7 +211,7 @@ module _ (q : List ℕ) (c : Component) (h : extensible c ≡ true) (rest : List
           → (m : List ℕ) × LaterMessage (parameterOf c) q (first ∷ releaseType ∷ s) m
       go none p z = nothing-shown z
       go (some g) p z =
-          let w = except-shows (shownBy (stepFive e (facility (g .value)) (g .rest))) _ z .0 in
+          let w = except-shows (shownBy (fiveAndSix e (facility (g .value)) (g .rest))) _ z .0 in
           let y = facility-exists q (g .value) c h (five-shows e (facility (g .value)) (g .rest) c rest w .0) in
           let f = first-found 0x1C s (g .value) (omega arith) (ap contentsOf p) in
           let n = first ∷ releaseType ∷ (f .before ++ (0x1C ∷ length (y .0) ∷ (y .0 ++ f .behind))) in

@@ -21,9 +21,9 @@ use Rattle.table.specs.Table.{Entry, closed, size, named, lowestClosed, entryAt
 use Rattle.table.proofs.TableLaws.{holds-at, valid-with}
 use Rattle.judging.specs.StepSix.{Judged, problem, accepted, among, full, operationOf, without, linkedProblem, orProblem, kept, withPeer, withoutOwn, isOurs, judgeInvoke, judgeResult, judgeError}
 use Rattle.deciding.specs.Decision.{Decision, silent, withCause, withReject, onReject, released, taken}
-use Rattle.deciding.specs.Steps.{firstOf, entryOf, onJudged, stepSix, opened, stepFive, decide}
+use Rattle.deciding.specs.Steps.{firstOctet, pickedEntry, onJudged, stepSix, opened, fiveAndSix, decide}
 use Rattle.deciding.specs.Seen.{Ready}
-use Rattle.calling.specs.Calls.{Sending, begin as toBegin, invokeWithin as toInvoke, sendResult, sendError, sendRelease}
+use Rattle.calling.specs.Calls.{Sending, sendBegin as toBegin, sendInvoke as toInvoke, sendResult, sendError, sendRelease}
 use Rattle.telephone.specs.Receive.{act, receive}
 use Rattle.telephone.specs.Calls.{called, noValue, begin, invokeWithin, result, error, release}
 use Rattle.telephone.proofs.Paths.{entry-fits}
@@ -89,17 +89,17 @@ module _ (e : Entry) (h : holds e ≡ true) where
   six-holds (component.error id code p) r = judged-holds (judgeError e id code) id _ r (error-kept e h id code)
   six-holds (reject id tag n) r = tt
 
-  five-holds : (f : Finding) (r : List ℕ) → Holds (stepFive e f r)
-  unfolding stepFive
+  five-holds : (f : Finding) (r : List ℕ) → Holds (fiveAndSix e f r)
+  unfolding fiveAndSix
   five-holds empty r = holds-open (e .own) (e .peer) (own-of e h) (peer-of e h)
   five-holds (shows c) r = six-holds c r
   five-holds (general n id) r = tt
   five-holds leftOver r = tt
   five-holds faultyReject r = tt
 
-entry-below : (m : List ℕ) → (valueOf (firstOf m) ≡ 7 → ⊥) → entryOf m < 14
-unfolding entryOf
-entry-below m n = let v : valueOf (firstOf m) < 7 = omega arith in go (eqb (flagOf (firstOf m)) 1) (valueOf (firstOf m)) v
+entry-below : (m : List ℕ) → (valueOf (firstOctet m) ≡ 7 → ⊥) → pickedEntry m < 14
+unfolding pickedEntry
+entry-below m n = let v : valueOf (firstOctet m) < 7 = omega arith in go (eqb (flagOf (firstOctet m)) 1) (valueOf (firstOctet m)) v
   where
     go : (b : Bool) (v : ℕ) → v < 7 → cond b v (7 + v) < 14
     go true v h = omega arith
@@ -108,7 +108,7 @@ entry-below m n = let v : valueOf (firstOf m) < 7 = omega arith in go (eqb (flag
 decide-holds : (t m : List ℕ) (room : ℕ) → Holds (decide t m room)
 decide-holds t m room =
     walk Holds (λ code k. tt) (λ n. tt) (λ shown cause. tt) t m room
-    (λ v n type g q. five-holds (entryAt t (entryOf m)) (holds-at t (entryOf m) v (entry-below m n)) (facility (g .value)) (g .rest))
+    (λ v n type g q. five-holds (entryAt t (pickedEntry m)) (holds-at t (pickedEntry m) v (entry-below m n)) (facility (g .value)) (g .rest))
 
 -- an entry of the image, from the room that it needs
 below-of : (t : List ℕ) (k : ℕ) → length t ≡ 70 → size * k + size ≤ length t → k < 14
@@ -117,11 +117,11 @@ below-of t k l h = omega arith
 act-valid : (t m b : List ℕ) (d : Decision) → valid t ≡ true → (isLoud d ≡ true → Ready t m (length b)) → Holds d → valid (act t m b d .table) ≡ true
 unfolding act
 act-valid t m b (silent code) v r h = v
-act-valid t m b (withCause n) v r h = valid-with t (entryOf m) closed v (below-of t (entryOf m) (r refl .0) (entry-fits t m (length b) (r refl))) closed-holds
-act-valid t m b (withReject id tag n) v r h = valid-with t (entryOf m) closed v (below-of t (entryOf m) (r refl .0) (entry-fits t m (length b) (r refl))) closed-holds
-act-valid t m b (onReject shown) v r h = valid-with t (entryOf m) closed v (below-of t (entryOf m) (r refl .0) (entry-fits t m (length b) (r refl))) closed-holds
-act-valid t m b (released shown cause) v r h = valid-with t (entryOf m) closed v (below-of t (entryOf m) (r refl .0) (entry-fits t m (length b) (r refl))) closed-holds
-act-valid t m b (taken e shown) v r h = valid-with t (entryOf m) e v (below-of t (entryOf m) (r refl .0) (entry-fits t m (length b) (r refl))) h
+act-valid t m b (withCause n) v r h = valid-with t (pickedEntry m) closed v (below-of t (pickedEntry m) (r refl .0) (entry-fits t m (length b) (r refl))) closed-holds
+act-valid t m b (withReject id tag n) v r h = valid-with t (pickedEntry m) closed v (below-of t (pickedEntry m) (r refl .0) (entry-fits t m (length b) (r refl))) closed-holds
+act-valid t m b (onReject shown) v r h = valid-with t (pickedEntry m) closed v (below-of t (pickedEntry m) (r refl .0) (entry-fits t m (length b) (r refl))) closed-holds
+act-valid t m b (released shown cause) v r h = valid-with t (pickedEntry m) closed v (below-of t (pickedEntry m) (r refl .0) (entry-fits t m (length b) (r refl))) closed-holds
+act-valid t m b (taken e shown) v r h = valid-with t (pickedEntry m) e v (below-of t (pickedEntry m) (r refl .0) (entry-fits t m (length b) (r refl))) h
 
 called-valid : (t b : List ℕ) (which : Option ℕ) (f : Sending → ℕ) (o : Answer Sending) → valid t ≡ true → Fine t (length b) which o → valid (called t b f o .table) ≡ true
 called-valid t b which f (fault n) v h = v

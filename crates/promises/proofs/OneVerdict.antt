@@ -11,15 +11,15 @@ use lib.Dec.{leb, eqb}
 use Rattle.octets.specs.Reader.{Answer, fault, sound}
 use Rattle.octets.specs.Splice.{splice}
 use Rattle.components.specs.Component.{reject}
-use Rattle.components.specs.Written.{octets}
+use Rattle.components.specs.Written.{componentOctets}
 use Rattle.messages.specs.Layout.{releaseFacility}
 use Rattle.writing.proofs.WriteLaws.{reject-octets, reject-bound}
 use Rattle.table.specs.Table.{size, closed, named, entryAt, withEntry, lowestClosed, holds}
 use Rattle.table.proofs.TableLaws.{read-written, others-stay}
 use Rattle.deciding.specs.Decision.{Decision, silent, withCause, withReject, onReject, released, taken}
-use Rattle.deciding.specs.Steps.{entryOf, replyFirst, decide}
+use Rattle.deciding.specs.Steps.{pickedEntry, replyFirst, decide}
 use Rattle.deciding.specs.Seen.{Ready}
-use Rattle.calling.specs.Calls.{Sending, begin as toBegin, invokeWithin as toInvoke, sendResult, sendError, sendRelease}
+use Rattle.calling.specs.Calls.{Sending, sendBegin as toBegin, sendInvoke as toInvoke, sendResult, sendError, sendRelease}
 use Rattle.telephone.specs.Outcome.{Outcome, untouched}
 use Rattle.telephone.specs.Receive.{sentBy, act, receive}
 use Rattle.telephone.specs.Calls.{called, noValue, begin, invokeWithin, result, error, release}
@@ -44,11 +44,11 @@ module _ (t m b : List ℕ) where
   unfolding releaseFacility
   facility-length first v = omega arith
 
-  reject-room : (first : ℕ) (id : Option ℤ) (tag n : ℕ) → length (releaseFacility first (octets (reject id tag n))) ≤ 12
-  reject-room first id tag n = omega (arith, facility-length first (octets (reject id tag n)), reject-octets id tag n, reject-bound id)
+  reject-room : (first : ℕ) (id : Option ℤ) (tag n : ℕ) → length (releaseFacility first (componentOctets (reject id tag n))) ≤ 12
+  reject-room first id tag n = omega (arith, facility-length first (componentOctets (reject id tag n)), reject-octets id tag n, reject-bound id)
 
-  closes : (d : Decision) → size * entryOf m + size ≤ length t → act t m b d .table ≡ withEntry t (entryOf m) closed → Closes t (entryOf m) (act t m b d)
-  closes d h e = record { own = ap (λ (x : List ℕ). entryAt x (entryOf m)) e ∙ closed-back t (entryOf m) h; others = λ j n. others-kept t m b d j h n }
+  closes : (d : Decision) → size * pickedEntry m + size ≤ length t → act t m b d .table ≡ withEntry t (pickedEntry m) closed → Closes t (pickedEntry m) (act t m b d)
+  closes d h e = record { own = ap (λ (x : List ℕ). entryAt x (pickedEntry m)) e ∙ closed-back t (pickedEntry m) h; others = λ j n. others-kept t m b d j h n }
 
   -- 01's table of verdicts, row by row
   each : (d : Decision) → Says d ≡ true → (isLoud d ≡ true → Ready t m (length b)) → Verdict t m b (act t m b d)

@@ -19,13 +19,13 @@ use Rattle.parameters.specs.Suits.{anyOne, isUssd, noneOrOne, noneOrUssd, suits
 use Rattle.places.specs.Places.{misplaced, parameter}
 use Rattle.components.specs.Component.{Component, invoke, error, reject}
 use Rattle.components.specs.Facility.{shows, facility}
-use Rattle.components.specs.Written.{octets, answer, IsParameter, Writable}
+use Rattle.components.specs.Written.{componentOctets, answer, IsParameter, Writable}
 use Rattle.components.proofs.ReadBack.{read-back, answer-writable}
 use Rattle.messages.specs.Layout.{registerType, facilityType, sentFirst, register, facilityMessage, releaseFacility}
 use Rattle.sending.proofs.SentBack.{register-found, facility-found, release-found}
 use Rattle.table.specs.Table.{entryAt, valid, lowestClosed}
 use Rattle.judging.specs.StepSix.{among, full, operationOf}
-use Rattle.calling.specs.Calls.{Sending, orRefused, transaction, begin, invokeWithin, sendResult, sendError}
+use Rattle.calling.specs.Calls.{Sending, orRefused, transaction, sendBegin, sendInvoke, sendResult, sendError}
 use Rattle.telephone.proofs.Paths.{fitting-is}
 use Rattle.promises.specs.ReadBack.{ComponentReadsBack, Carries, CallReadsBack, Demand2}
 use Rattle.promises.proofs.RejectBack.{reject-reads-back}
@@ -96,14 +96,14 @@ result-parameter o p h = go (eqb o 18) (eqb o 60) h
     go false false h = no-parameter p (and-second (eqb o 61) (isEmpty p) h)
 
 module _ (t p : List ℕ) (room : ℕ) (id : ℤ) (i : SFits w8 id) (s : Sending) where
-  in-register : (first : ℕ) (c : Component) → Writable c → s .message ≡ register first (octets c) → Carries registerType (s .message) c
-  in-register first c w e = record { behind = 0x7F ∷ 0x01 ∷ 0x00 ∷ []; found = rw e (register-found first (octets c)); back = read-back c w }
+  in-register : (first : ℕ) (c : Component) → Writable c → s .message ≡ register first (componentOctets c) → Carries registerType (s .message) c
+  in-register first c w e = record { behind = 0x7F ∷ 0x01 ∷ 0x00 ∷ []; found = rw e (register-found first (componentOctets c)); back = read-back c w }
 
-  in-facility : (first : ℕ) (c : Component) → Writable c → s .message ≡ facilityMessage first (octets c) → Carries facilityType (s .message) c
-  in-facility first c w e = record { behind = []; found = rw e (facility-found first (octets c)); back = read-back c w }
+  in-facility : (first : ℕ) (c : Component) → Writable c → s .message ≡ facilityMessage first (componentOctets c) → Carries facilityType (s .message) c
+  in-facility first c w e = record { behind = []; found = rw e (facility-found first (componentOctets c)); back = read-back c w }
 
-  begin-carries : (o : ℕ) → begin t room o id p ≡ sound s → Carries registerType (s .message) (invoke id none o p)
-  unfolding begin
+  begin-carries : (o : ℕ) → sendBegin t room o id p ≡ sound s → Carries registerType (s .message) (invoke id none o p)
+  unfolding sendBegin
   begin-carries o e =
       passed (valid t) 28 _ s e λ e₁ f₁.
       passed (begins o) 20 _ s f₁ λ e₂ f₂.
@@ -112,8 +112,8 @@ module _ (t p : List ℕ) (room : ℕ) (id : ℤ) (i : SFits w8 id) (s : Sending
       in-register (sentFirst 1 v) (invoke id none o p) (i, (tt, invoke-parameter o p e₄)) (sym (ap (λ (z : Sending). z .message) (fitting-is room _ s f₄)))
 
   module _ (flag value : ℕ) where
-    invoke-carries : (o : ℕ) → invokeWithin t room flag value o id p ≡ sound s → Carries facilityType (s .message) (invoke id none o p)
-    unfolding invokeWithin
+    invoke-carries : (o : ℕ) → sendInvoke t room flag value o id p ≡ sound s → Carries facilityType (s .message) (invoke id none o p)
+    unfolding sendInvoke
     invoke-carries o e =
         passed (valid t) 28 _ s e λ e₁ f₁.
         passed (begins o) 20 _ s f₁ λ e₂ f₂.
@@ -132,7 +132,7 @@ module _ (t p : List ℕ) (room : ℕ) (id : ℤ) (i : SFits w8 id) (s : Sending
         let z = fitting-is room _ s f₄ in
         let k-is : k ≡ s .entry = ap (λ (x : Sending). x .entry) z in
         let o : ℕ = operationOf id (entryAt t k .peer) in
-        let m : s .message ≡ facilityMessage (sentFirst flag value) (octets (answer id o p)) = sym (ap (λ (x : Sending). x .message) z) in
+        let m : s .message ≡ facilityMessage (sentFirst flag value) (componentOctets (answer id o p)) = sym (ap (λ (x : Sending). x .message) z) in
         let y : Carries facilityType (s .message) (answer id o p) = in-facility (sentFirst flag value) (answer id o p) (answer-writable id o p i (result-parameter o p e₄)) m in
         subst (λ (j : ℕ). Carries facilityType (s .message) (answer id (operationOf id (entryAt t j .peer)) p)) k-is y
 

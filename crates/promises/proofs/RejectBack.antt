@@ -10,7 +10,7 @@ use lib.ListN.{length, getD, drop}
 use lib.Dec.{leb, eqb}
 use mir.Syntax.{w8}
 use mir.Val.{SFits}
-use mir.Facts.{sfits-toZ}
+use Rattle.codes.proofs.IdLaws.{is-id}
 use Rattle.octets.specs.Octets.{Octets}
 use Rattle.octets.specs.Reader.{Answer, fault, sound, Taken, took, andThen, check, octet, front, isEmpty, alone}
 use Rattle.octets.proofs.OctetsLaws.{octets-take, octets-drop}
@@ -22,7 +22,7 @@ use Rattle.codes.specs.Problems.{problemTag}
 use Rattle.places.specs.Places.{misplaced, single}
 use Rattle.components.specs.Component.{Component, invoke, result, error, reject, rejectTag, invokeTag, resultTag, invokeOf, resultOf, errorOf, rejectOf}
 use Rattle.components.specs.Facility.{Finding, empty, shows, general, leftOver, faultyReject, idRead, faulty, found, afterTag, component, inside, outer, facility}
-use Rattle.components.specs.Written.{IsSomeId, octets, Writable}
+use Rattle.components.specs.Written.{IsSomeId, componentOctets, Writable}
 use Rattle.components.proofs.ReadBack.{read-back}
 use Rattle.codes.specs.Operations.{serves}
 use Rattle.codes.specs.Errors.{listed}
@@ -35,7 +35,7 @@ use Rattle.sending.proofs.SentBack.{release-found}
 use Rattle.table.specs.Table.{Entry, entryAt}
 use Rattle.judging.specs.StepSix.{Judged, problem, accepted, among, full, operationOf, linkedProblem, orProblem, withPeer, isOurs, judgeInvoke, judgeResult, judgeError}
 use Rattle.deciding.specs.Decision.{Decision, silent, withCause, withReject, onReject, released, taken}
-use Rattle.deciding.specs.Steps.{entryOf, onJudged, stepSix, stepFive, decide}
+use Rattle.deciding.specs.Steps.{pickedEntry, onJudged, stepSix, fiveAndSix, decide}
 use Rattle.promises.specs.ReadBack.{RejectReadsBack}
 use Rattle.promises.proofs.Walk.{walk}
 use Rattle.places.specs.Places.{called, coded, rejected, parameter}
@@ -67,7 +67,7 @@ single-id s i e h =
     passed (eqb (length (g .value .contents)) 1) misplaced _ i v λ w x.
     let d : getD (g .value .contents) 0 0 ≡ i .value = ap (λ (y : Taken ℕ). y .value) (sound-inj x) in
     let f : i .value < 256 = rw (← d) (first-octet (g .value .contents) (contents-octets s g p h)) in
-    sfits-toZ (record { fits = f })
+    is-id _ f
 
 id-read : (o : Answer (Taken ℕ)) → ((i : Taken ℕ) → o ≡ sound i → SFits w8 (idOf (i .value))) → IsSomeId (idRead o)
 id-read (fault n) h = tt
@@ -194,8 +194,8 @@ six-rejects e (result id o p) r h = judged-rejects (judgeResult e id o p) id _ r
 six-rejects e (error id code p) r h = judged-rejects (judgeError e id code) id _ r h (error-tagged e id code)
 six-rejects e (reject id tag n) r h = tt
 
-five-rejects : (e : Entry) (f : Finding) (r : List ℕ) → FindingHasId f → Rejects (stepFive e f r)
-unfolding stepFive
+five-rejects : (e : Entry) (f : Finding) (r : List ℕ) → FindingHasId f → Rejects (fiveAndSix e f r)
+unfolding fiveAndSix
 five-rejects e empty r h = tt
 five-rejects e (shows c) r h = six-rejects e c r h
 five-rejects e (general n id) r h = (h, refl)
@@ -222,9 +222,9 @@ value-octets type s g e h =
 decide-rejects : (t m : List ℕ) (room : ℕ) → Octets m → Rejects (decide t m room)
 decide-rejects t m room h =
     walk Rejects (λ code k. tt) (λ n. tt) (λ shown cause. tt) t m room
-    (λ v n type g q. five-rejects (entryAt t (entryOf m)) (facility (g .value)) (g .rest) (facility-has-id (g .value) (value-octets type (drop 2 m) g q (octets-drop 2 m h))))
+    (λ v n type g q. five-rejects (entryAt t (pickedEntry m)) (facility (g .value)) (g .rest) (facility-has-id (g .value) (value-octets type (drop 2 m) g q (octets-drop 2 m h))))
 
 pub reject-reads-back : RejectReadsBack
 reject-reads-back t m room first id tag number h e =
     let w : Writable (reject id tag number) = subst Rejects e (decide-rejects t m room h) in
-    (release-found first (octets (reject id tag number)), read-back (reject id tag number) w)
+    (release-found first (componentOctets (reject id tag number)), read-back (reject id tag number) w)

@@ -19,8 +19,9 @@ use Rattle.messages.specs.Scan.{information, firstTaken, Passed, nothing, anoth
 use Rattle.messages.proofs.ScanLaws.{information-local, information-back, taken-step}
 use Rattle.table.specs.Table.{Entry, entryAt, valid}
 use Rattle.judging.specs.StepSix.{Judged, problem, accepted, judgeInvoke, judgeResult, judgeError}
-use Rattle.deciding.specs.Decision.{Decision, Shows, silent, shownBy}
-use Rattle.deciding.specs.Steps.{onJudged, isInvoke, exceptInvoke, stepSix, stepFive, stepTwo, firstOf, entryOf, decide}
+use Rattle.components.specs.Shows.{Shows}
+use Rattle.deciding.specs.Decision.{Decision, silent, shownBy}
+use Rattle.deciding.specs.Steps.{onJudged, isInvoke, exceptInvoke, stepSix, fiveAndSix, stepTwo, firstOctet, pickedEntry, decide}
 use Rattle.components.specs.Texts.{extensible, readable, textOf}
 use Rattle.telephone.specs.Receive.{act, receive}
 
@@ -53,12 +54,12 @@ pub record GoesOn (t : List ℕ) (space : ℕ) (m : List ℕ) : Type 0 where
   pub room : ltb space 12 ≡ false
   pub most : ltb 255 (length m) ≡ false
   pub least : ltb (length m) 2 ≡ false
-  pub protocol : eqb (discriminator (firstOf m)) 11 ≡ true
-  pub transaction : eqb (value (firstOf m)) 7 ≡ false
+  pub protocol : eqb (discriminator (firstOctet m)) 11 ≡ true
+  pub transaction : eqb (value (firstOctet m)) 7 ≡ false
 
 -- step 2 and what follows it
 abbrev pub further : List ℕ → List ℕ → Decision
-further t m = stepTwo (entryAt t (entryOf m)) (flag (firstOf m)) (getD m 1 0) (drop 2 m)
+further t m = stepTwo (entryAt t (pickedEntry m)) (flag (firstOctet m)) (getD m 1 0) (drop 2 m)
 
 pub decide-shows : (t m : List ℕ) (room : ℕ) (w : Taken Component) → shownBy (decide t m room) ≡ some w → GoesOn t room m × (shownBy (further t m) ≡ some w)
 unfolding decide
@@ -67,8 +68,8 @@ decide-shows t m room w e =
     failed (ltb room 12) (silent 27) _ w refl e₁ λ h₂ e₂.
     failed (ltb 255 (length m)) (silent 6) _ w refl e₂ λ h₃ e₃.
     failed (ltb (length m) 2) (silent 1) _ w refl e₃ λ h₄ e₄.
-    held (eqb (discriminator (firstOf m)) 11) _ (silent 7) w refl e₄ λ h₅ e₅.
-    failed (eqb (value (firstOf m)) 7) (silent 1) _ w refl e₅ λ h₆ e₆.
+    held (eqb (discriminator (firstOctet m)) 11) _ (silent 7) w refl e₄ λ h₅ e₅.
+    failed (eqb (value (firstOctet m)) 7) (silent 1) _ w refl e₅ λ h₆ e₆.
     (record { table = h₁; room = h₂; most = h₃; least = h₄; protocol = h₅; transaction = h₆ }, e₆)
 
 pub decide-further : (t m : List ℕ) (room : ℕ) → GoesOn t room m → decide t m room ≡ further t m
@@ -92,9 +93,9 @@ six-shows e (error id code p) behind w k = judged-shows (judgeError e id code) i
 six-shows e (reject id tag number) behind w k = sym (some-inj k)
 
 -- what is shown was found in the Facility value
-pub five-shows : (e : Entry) (f : Finding) (behind : List ℕ) (c : Component) (r : List ℕ) → shownBy (stepFive e f behind) ≡ some (record { value = c; rest = r })
+pub five-shows : (e : Entry) (f : Finding) (behind : List ℕ) (c : Component) (r : List ℕ) → shownBy (fiveAndSix e f behind) ≡ some (record { value = c; rest = r })
     → (f ≡ shows c) × (shownBy (stepSix e c behind) ≡ some (record { value = c; rest = r }))
-unfolding stepFive
+unfolding fiveAndSix
 five-shows e empty behind c r k = nothing-shown k
 five-shows e (shows d) behind c r k = let q : c ≡ d = ap (λ (w : Taken Component). w .value) (six-shows e d behind _ k) in (ap shows (sym q), rw q (rw q at k))
 five-shows e (general number id) behind c r k = nothing-shown k

@@ -16,7 +16,7 @@ use Rattle.table.specs.Table.{Entry, entryAt, valid}
 use Rattle.table.proofs.TableLaws.{valid-each}
 use Rattle.judging.specs.StepSix.{Judged, problem, accepted, judgeInvoke, judgeResult, judgeError}
 use Rattle.deciding.specs.Decision.{Decision, silent, withCause, withReject, onReject, released, taken}
-use Rattle.deciding.specs.Steps.{firstOf, entryOf, onJudged, stepSix, stepFive, decide}
+use Rattle.deciding.specs.Steps.{firstOctet, pickedEntry, onJudged, stepSix, fiveAndSix, decide}
 use Rattle.deciding.specs.Seen.{Ready}
 use Rattle.promises.specs.OneVerdict.{sendsNothing}
 use Rattle.promises.proofs.Walk.{walk}
@@ -49,8 +49,8 @@ six-says e (error i k p) r = go (judgeError e i k)
     go (accepted x) = refl
 six-says e (reject i t n) r = refl
 
-five-says : (e : Entry) (f : Finding) (r : List ℕ) → Says (stepFive e f r) ≡ true
-unfolding stepFive
+five-says : (e : Entry) (f : Finding) (r : List ℕ) → Says (fiveAndSix e f r) ≡ true
+unfolding fiveAndSix
 five-says e empty r = refl
 five-says e (shows c) r = six-says e c r
 five-says e (general n i) r = refl
@@ -58,7 +58,7 @@ five-says e leftOver r = refl
 five-says e faultyReject r = refl
 
 pub decide-says : (t m : List ℕ) (room : ℕ) → Says (decide t m room) ≡ true
-decide-says t m room = walk (λ d. Says d ≡ true) (λ code h. h) (λ n. refl) (λ shown cause. refl) t m room (λ v n type g q. five-says (entryAt t (entryOf m)) (facility (g .value)) (g .rest))
+decide-says t m room = walk (λ d. Says d ≡ true) (λ code h. h) (λ n. refl) (λ shown cause. refl) t m room (λ v n type g q. five-says (entryAt t (pickedEntry m)) (facility (g .value)) (g .rest))
 
 -- whether a decision is no silence
 abbrev pub isLoud : Decision → Bool
@@ -85,8 +85,8 @@ loud-ready t m room h =
     loud-else (ltb room 12) _ 27 h₁ λ r h₂.
     loud-else (ltb 255 (length m)) _ 6 h₂ λ l h₃.
     loud-else (ltb (length m) 2) _ 1 h₃ λ n h₄.
-    loud-then (eqb (discriminator (firstOf m)) 11) _ 7 h₄ λ d h₅.
-    loud-else (eqb (value (firstOf m)) 7) _ 1 h₅ λ w h₆.
-    let x = eqb-false (value (firstOf m)) 7 w in
-    let y : value (firstOf m) < 7 = omega arith in
+    loud-then (eqb (discriminator (firstOctet m)) 11) _ 7 h₄ λ d h₅.
+    loud-else (eqb (value (firstOctet m)) 7) _ 1 h₅ λ w h₆.
+    let x = eqb-false (value (firstOctet m)) 7 w in
+    let y : value (firstOctet m) < 7 = omega arith in
     (valid-each t v .0, (ltb-false room 12 r, (ltb-false (length m) 2 n, y)))

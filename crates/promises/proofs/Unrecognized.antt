@@ -12,7 +12,7 @@ use Rattle.components.specs.Component.{invoke}
 use Rattle.table.specs.Table.{Waiting, Entry, entryAt}
 use Rattle.judging.specs.StepSix.{problem, among, full, judgeInvoke}
 use Rattle.deciding.specs.Decision.{Decision, withReject}
-use Rattle.deciding.specs.Steps.{entryOf, stepSix, stepFive, stepFour, decide}
+use Rattle.deciding.specs.Steps.{pickedEntry, stepSix, fiveAndSix, fourToSix, decide}
 use Rattle.telephone.specs.Receive.{act, receive}
 use Rattle.promises.specs.Unrecognized.{ReachesStepSix, Unrecognized}
 
@@ -22,10 +22,10 @@ unfolding judgeInvoke among full
 not-served e id linked operation p s h = rw (h, s)
 
 decided : (t m b : List ℕ) (id : ℤ) (linked : Option ℤ) (operation : ℕ) (p : List ℕ) → ReachesStepSix t m b id linked operation p
-    → serves operation ≡ false → entryAt t (entryOf m) .peer ≡ [] → decide t m (length b) ≡ withReject (some id) invokeProblem 1
-unfolding stepFour stepFive stepSix
+    → serves operation ≡ false → entryAt t (pickedEntry m) .peer ≡ [] → decide t m (length b) ≡ withReject (some id) invokeProblem 1
+unfolding fourToSix fiveAndSix stepSix
 decided t m b id linked operation p r s h =
-    r .through ∙ rw (r .required, r .shows, not-served (entryAt t (entryOf m)) id linked operation p s h)
+    r .through ∙ rw (r .required, r .shows, not-served (entryAt t (pickedEntry m)) id linked operation p s h)
 
 pub unrecognized : Unrecognized
 unfolding receive act

@@ -15,8 +15,9 @@ use Rattle.messages.specs.Scan.{required}
 use Rattle.messages.specs.declared.layout.MessageType.{MessageType}
 use Rattle.messages.specs.declared.layout.MessageType.the-variants.{ReleaseComplete, Facility, Register, Unknown}
 use Rattle.table.specs.Table.{Entry, entryAt, valid}
-use Rattle.deciding.specs.Decision.{Shows, Decision, silent, withCause, released}
-use Rattle.deciding.specs.Steps.{firstOf, entryOf, stepFive, onRequired, stepFour, onRelease, byType, stepTwo, decide}
+use Rattle.components.specs.Shows.{Shows}
+use Rattle.deciding.specs.Decision.{Decision, silent, withCause, released}
+use Rattle.deciding.specs.Steps.{firstOctet, pickedEntry, fiveAndSix, onRequired, fourToSix, onRelease, byType, stepTwo, decide}
 use Rattle.promises.specs.OneVerdict.{sendsNothing}
 
 module _ (P : Decision → Type 0) (onSilent : (code : ℕ) → sendsNothing code ≡ true → P (silent code)) (onCause : (number : ℕ) → P (withCause number))
@@ -26,9 +27,9 @@ module _ (P : Decision → Type 0) (onSilent : (code : ℕ) → sendsNothing cod
   either false x y h k = k refl
 
   -- what step 5 is given was found by step 4
-  module _ (e : Entry) (s : List ℕ) (onFive : (type : ℕ) (g : Taken (List ℕ)) → required type s ≡ sound g → P (stepFive e (facility (g .value)) (g .rest))) where
-    four : (type : ℕ) → P (stepFour e type s)
-    unfolding stepFour
+  module _ (e : Entry) (s : List ℕ) (onFive : (type : ℕ) (g : Taken (List ℕ)) → required type s ≡ sound g → P (fiveAndSix e (facility (g .value)) (g .rest))) where
+    four : (type : ℕ) → P (fourToSix e type s)
+    unfolding fourToSix
     four type = go (required type s) refl
       where
         go : (o : Answer (Taken (List ℕ))) → required type s ≡ o → P (onRequired e o)
@@ -46,7 +47,7 @@ module _ (P : Decision → Type 0) (onSilent : (code : ℕ) → sendsNothing cod
         go Unknown = onCause 97
 
   pub walk : (t m : List ℕ) (room : ℕ)
-      → (valid t ≡ true → (value (firstOf m) ≡ 7 → ⊥) → (type : ℕ) (g : Taken (List ℕ)) → required type (drop 2 m) ≡ sound g → P (stepFive (entryAt t (entryOf m)) (facility (g .value)) (g .rest)))
+      → (valid t ≡ true → (value (firstOctet m) ≡ 7 → ⊥) → (type : ℕ) (g : Taken (List ℕ)) → required type (drop 2 m) ≡ sound g → P (fiveAndSix (entryAt t (pickedEntry m)) (facility (g .value)) (g .rest)))
       → P (decide t m room)
   unfolding decide
   walk t m room onFive =
@@ -54,8 +55,8 @@ module _ (P : Decision → Type 0) (onSilent : (code : ℕ) → sendsNothing cod
       (λ v. either (ltb room 12) _ _ (λ a. onSilent 27 refl)
       (λ a. either (ltb 255 (length m)) _ _ (λ b. onSilent 6 refl)
       (λ b. either (ltb (length m) 2) _ _ (λ c. onSilent 1 refl)
-      (λ c. either (eqb (discriminator (firstOf m)) 11) _ _
-      (λ d. either (eqb (value (firstOf m)) 7) _ _ (λ w. onSilent 1 refl)
-      (λ w. two (entryAt t (entryOf m)) (drop 2 m) (onFive v (eqb-false (value (firstOf m)) 7 w)) (flag (firstOf m)) (getD m 1 0)))
+      (λ c. either (eqb (discriminator (firstOctet m)) 11) _ _
+      (λ d. either (eqb (value (firstOctet m)) 7) _ _ (λ w. onSilent 1 refl)
+      (λ w. two (entryAt t (pickedEntry m)) (drop 2 m) (onFive v (eqb-false (value (firstOctet m)) 7 w)) (flag (firstOctet m)) (getD m 1 0)))
       (λ d. onSilent 7 refl)))))
       (λ v. onSilent 28 refl)

@@ -1,11 +1,11 @@
 -- W1 to W10 hold, by computation.
 use mathlib.Core.Path.{refl}
-use Rattle.calling.specs.Calls.{transaction as calling-transaction, fitting as calling-fitting, begin as calling-begin, sendResult as calling-sendResult}
+use Rattle.calling.specs.Calls.{transaction as calling-transaction, fitting as calling-fitting, sendBegin as calling-begin, sendResult as calling-sendResult}
 use Rattle.codes.specs.Errors.{listed as codes-listed}
 use Rattle.components.specs.Written.{contents as components-contents, answer as components-answer}
 use Rattle.components.specs.Component.{invokeOf as components-invokeOf, resultOf as components-resultOf, errorOf as components-errorOf, rejectOf as components-rejectOf}
 use Rattle.components.specs.Facility.{afterTag as components-afterTag, component as components-component, inside as components-inside, facility as components-facility}
-use Rattle.deciding.specs.Steps.{stepSix as deciding-stepSix, stepFive as deciding-stepFive, stepFour as deciding-stepFour, onRelease as deciding-onRelease, stepTwo as deciding-stepTwo, entryOf as deciding-entryOf, replyFirst as deciding-replyFirst, decide as deciding-decide}
+use Rattle.deciding.specs.Steps.{stepSix as deciding-stepSix, fiveAndSix as deciding-stepFive, fourToSix as deciding-stepFour, onRelease as deciding-onRelease, stepTwo as deciding-stepTwo, pickedEntry as deciding-entryOf, replyFirst as deciding-replyFirst, decide as deciding-decide}
 use Rattle.elements.specs.Element.{lengthOf as elements-lengthOf, element as elements-element, rowOf as elements-rowOf, row as elements-row, shortest as elements-shortest}
 use Rattle.judging.specs.StepSix.{among as judging-among, full as judging-full, operationOf as judging-operationOf, without as judging-without, linkedProblem as judging-linkedProblem, judgeInvoke as judging-judgeInvoke, isOurs as judging-isOurs, judgeResult as judging-judgeResult, judgeError as judging-judgeError}
 use Rattle.messages.specs.Layout.{sized as messages-sized, mandatory as messages-mandatory, register as messages-register, facilityMessage as messages-facilityMessage, releaseFacility as messages-releaseFacility}
@@ -15,7 +15,7 @@ use Rattle.parameters.specs.Suits.{suitsInvokeReceived as parameters-suitsInvok
 use Rattle.parameters.specs.Parameter.{string as parameters-string, text as parameters-text, ussdContents as parameters-ussdContents, ussd as parameters-ussd, ssForBsContents as parameters-ssForBsContents}
 use Rattle.places.specs.Places.{single as places-single, parameter as places-parameter, called as places-called, coded as places-coded, rejected as places-rejected}
 use Rattle.components.specs.Texts.{textOf as components-textOf}
-use Rattle.table.specs.Table.{entryOf as table-entryOf, soundImage as table-soundImage, entryAt as table-entryAt, soundEntries as table-soundEntries, valid as table-valid, stateOf as table-stateOf, octets as table-octets, withEntry as table-withEntry, lowestFrom as table-lowestFrom, lowestClosed as table-lowestClosed}
+use Rattle.table.specs.Table.{entryOf as table-entryOf, soundImage as table-soundImage, entryAt as table-entryAt, soundEntries as table-soundEntries, valid as table-valid, stateOf as table-stateOf, entryOctets as table-octets, withEntry as table-withEntry, lowestFrom as table-lowestFrom, lowestClosed as table-lowestClosed}
 use Rattle.telephone.specs.Receive.{act as telephone-act, receive as telephone-receive}
 use Rattle.telephone.specs.Calls.{begin as telephone-begin, result as telephone-result}
 use Rattle.promises.specs.Worked.{Worked}

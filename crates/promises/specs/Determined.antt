@@ -13,7 +13,7 @@ use Rattle.components.specs.Seen.{kindSeen, KindWithin, readingSeen, ReadingWit
 use Rattle.messages.specs.Seen.{itemSeen, ItemWithin, bodySeen, BodyWithin, partSeen, PartWithin}
 use Rattle.table.specs.Seen.{slotSeen, namedSeen}
 use Rattle.judging.specs.StepSix.{Judged}
-use Rattle.judging.specs.Seen.{verdictSeen, VerdictText}
+use Rattle.judging.specs.Seen.{judgementSeen, JudgementText}
 use Rattle.judging.specs.declared.Verdict.{Verdict}
 use Rattle.deciding.specs.Seen.{decisionSeen, DecisionWithin}
 use Rattle.calling.specs.Seen.{callSeen, CallNames}
@@ -60,7 +60,7 @@ Messages = Says itemSeen ItemWithin × (Says bodySeen BodyWithin × Says partSee
 abbrev pub Transactions : Type 0
 Transactions =
     Means slotSeen
-    × (Means namedSeen × ((c : Component) (definition : Judged) → OneAnswer (λ (r : Verdict). (verdictSeen r ≡ definition) × VerdictText c r)))
+    × (Means namedSeen × ((c : Component) (definition : Judged) → OneAnswer (λ (r : Verdict). (judgementSeen r ≡ definition) × JudgementText c r)))
 
 abbrev pub Decisions : Type 0
 Decisions =

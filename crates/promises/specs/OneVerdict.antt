@@ -10,10 +10,10 @@ use lib.IntN.{ℤ}
 use lib.ListN.{length, take, drop}
 use lib.Dec.{leb, eqb}
 use Rattle.components.specs.Component.{reject}
-use Rattle.components.specs.Written.{octets}
+use Rattle.components.specs.Written.{componentOctets}
 use Rattle.messages.specs.Layout.{release, releaseCause, releaseFacility}
 use Rattle.table.specs.Table.{entryAt, closed, named, lowestClosed}
-use Rattle.deciding.specs.Steps.{entryOf, replyFirst}
+use Rattle.deciding.specs.Steps.{pickedEntry, replyFirst}
 use Rattle.telephone.specs.Outcome.{Outcome, untouched}
 use Rattle.telephone.specs.Receive.{receive}
 use Rattle.telephone.specs.Calls as calls
@@ -41,12 +41,12 @@ sendsNothing code = eqb code 1 || eqb code 6 || eqb code 7 || eqb code 27 || eqb
 -- 01's table of verdicts, a case a row
 pub data Verdict (t m b : List ℕ) (o : Outcome) : Type 0 where
   ignored : sendsNothing (o .code) ≡ true → o ≡ untouched t b (o .code) → Verdict t m b o
-  withCause : o .code ≡ 2 → (number : ℕ) → Writes b (releaseCause (replyFirst m) number) o → Closes t (entryOf m) o → o .shown ≡ none → Verdict t m b o
-  withReject : o .code ≡ 3 → (id : Option ℤ) (tag number : ℕ) → Writes b (releaseFacility (replyFirst m) (octets (reject id tag number))) o → Closes t (entryOf m) o
+  withCause : o .code ≡ 2 → (number : ℕ) → Writes b (releaseCause (replyFirst m) number) o → Closes t (pickedEntry m) o → o .shown ≡ none → Verdict t m b o
+  withReject : o .code ≡ 3 → (id : Option ℤ) (tag number : ℕ) → Writes b (releaseFacility (replyFirst m) (componentOctets (reject id tag number))) o → Closes t (pickedEntry m) o
       → o .shown ≡ none → Verdict t m b o
-  onReject : o .code ≡ 4 → Writes b (release (replyFirst m)) o → Closes t (entryOf m) o → Verdict t m b o
-  released : o .code ≡ 5 → Writes b [] o → Closes t (entryOf m) o → Verdict t m b o
-  taken : o .code ≡ 0 → Writes b [] o → ChangesOnly t (entryOf m) o → Verdict t m b o
+  onReject : o .code ≡ 4 → Writes b (release (replyFirst m)) o → Closes t (pickedEntry m) o → Verdict t m b o
+  released : o .code ≡ 5 → Writes b [] o → Closes t (pickedEntry m) o → Verdict t m b o
+  taken : o .code ≡ 0 → Writes b [] o → ChangesOnly t (pickedEntry m) o → Verdict t m b o
 
 abbrev pub EveryMessage : Type 0
 EveryMessage = (t m b : List ℕ) → Verdict t m b (receive t m b)

@@ -13,18 +13,18 @@ use Rattle.codes.specs.Operations.{serves}
 use Rattle.codes.specs.Problems.{invoke as invokeProblem}
 use Rattle.components.specs.Component.{invoke, reject}
 use Rattle.components.specs.Facility.{shows, facility}
-use Rattle.components.specs.Written.{octets}
+use Rattle.components.specs.Written.{componentOctets}
 use Rattle.messages.specs.Layout.{registerType, facilityType, releaseFacility}
 use Rattle.messages.specs.Scan.{required}
 use Rattle.table.specs.Table.{entryAt}
 use Rattle.deciding.specs.Decision.{withReject}
-use Rattle.deciding.specs.Steps.{entryOf, replyFirst, stepFour, decide}
+use Rattle.deciding.specs.Steps.{pickedEntry, replyFirst, fourToSix, decide}
 use Rattle.telephone.specs.Receive.{receive}
 
 -- steps 1 to 3 let the message through to step 4, as one of this type, and its Facility value shows the Invoke
 pub record ReachesStepSix (t m b : List ℕ) (id : ℤ) (linked : Option ℤ) (operation : ℕ) (p : List ℕ) : Type 0 where
   pub type : ℕ
-  pub through : decide t m (length b) ≡ stepFour (entryAt t (entryOf m)) type (drop 2 m)
+  pub through : decide t m (length b) ≡ fourToSix (entryAt t (pickedEntry m)) type (drop 2 m)
   pub value : List ℕ
   pub behind : List ℕ
   pub required : required type (drop 2 m) ≡ took value behind
@@ -34,5 +34,5 @@ pub record ReachesStepSix (t m b : List ℕ) (id : ℤ) (linked : Option ℤ) (o
 abbrev pub Unrecognized : Type 0
 Unrecognized =
     (t m b : List ℕ) (id : ℤ) (linked : Option ℤ) (operation : ℕ) (p : List ℕ) → ReachesStepSix t m b id linked operation p
-    → serves operation ≡ false → entryAt t (entryOf m) .peer ≡ []
-    → (receive t m b .code ≡ 3) × (receive t m b .buffer ≡ splice b 0 (releaseFacility (replyFirst m) (octets (reject (some id) invokeProblem 1))))
+    → serves operation ≡ false → entryAt t (pickedEntry m) .peer ≡ []
+    → (receive t m b .code ≡ 3) × (receive t m b .buffer ≡ splice b 0 (releaseFacility (replyFirst m) (componentOctets (reject (some id) invokeProblem 1))))

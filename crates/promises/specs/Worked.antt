@@ -8,7 +8,7 @@ use lib.ListN.{length, take, replicate}
 use Rattle.octets.specs.Reader.{Taken}
 use Rattle.parameters.specs.Parameter.{Text}
 use Rattle.components.specs.Component.{Component, invoke}
-use Rattle.deciding.specs.Decision.{Shows}
+use Rattle.components.specs.Shows.{Shows}
 use Rattle.components.specs.Texts.{textOf}
 use Rattle.telephone.specs.Outcome.{Outcome}
 use Rattle.telephone.specs.Receive.{receive}

@@ -8,8 +8,7 @@ use native.Mathlib.Omega.{arith}
 use lib.IntN.{ℤ}
 use lib.ListN.{length, take, drop, length-take, length-drop}
 use Rattle.octets.specs.Part.{between}
-use Rattle.codes.specs.Ids.{idOf, octetOf}
-use Rattle.codes.proofs.IdLaws.{IsId, id-back}
+use Rattle.codes.proofs.IdLaws.{asHeld, IsId, held-is}
 use Rattle.printing.specs.Lines.{when, idLine}
 use Rattle.printing.proofs.JoinLaws.{Wrote, join}
 
@@ -24,8 +23,8 @@ front-length n s = simp length-take (omega arith)
 
 -- an id that the code hands on is the id
 pub with-id : (page : List ℕ) (at : ℕ) (there : Bool) (word : List ℕ) (id : ℤ) (x : List ℕ) (n : ℕ) → IsId id
-    → Wrote page at (when there (idLine word (idOf (octetOf id)))) x n → Wrote page at (when there (idLine word id)) x n
-with-id page at there word id x n h w = rw (id-back h) at w
+    → Wrote page at (when there (idLine word (asHeld id))) x n → Wrote page at (when there (idLine word id)) x n
+with-id page at there word id x n h w = rw (held-is h) at w
 
 pub three : (page : List ℕ) (at : ℕ) (t u v p q r : List ℕ) (i j k : ℕ) → k ≤ length page
     → Wrote page at t p i → Wrote p i u q j → Wrote q j v r k

@@ -12,7 +12,7 @@ use Rattle.messages.specs.Scan.{Information, information, clearOf, clear, requi
 use Rattle.messages.proofs.ScanLaws.{register-back, facility-back, information-back, first-step, clear-none}
 use Rattle.components.specs.Component.{Component}
 use Rattle.components.specs.Facility.{shows, facility}
-use Rattle.components.specs.Written.{octets, Writable}
+use Rattle.components.specs.Written.{componentOctets, Writable}
 use Rattle.components.proofs.ReadBack.{read-back}
 
 -- "Ours ends with 7F 01 00", which requires no comprehension
@@ -45,8 +45,8 @@ cause-found first cause = (refl, refl)
 
 -- and the component in it reads back
 pub sent-back : (c : Component) → Writable c → (first : ℕ)
-    → (required registerType (drop 2 (register first (octets c))) ≡ took (octets c) (0x7F ∷ 0x01 ∷ 0x00 ∷ []))
-    × (required facilityType (drop 2 (facilityMessage first (octets c))) ≡ took (octets c) [])
-    × (firstWhole 0x1C (drop 2 (releaseFacility first (octets c))) ≡ some (octets c))
-    × (facility (octets c) ≡ shows c)
-sent-back c h first = (register-found first (octets c), facility-found first (octets c), release-found first (octets c), read-back c h)
+    → (required registerType (drop 2 (register first (componentOctets c))) ≡ took (componentOctets c) (0x7F ∷ 0x01 ∷ 0x00 ∷ []))
+    × (required facilityType (drop 2 (facilityMessage first (componentOctets c))) ≡ took (componentOctets c) [])
+    × (firstWhole 0x1C (drop 2 (releaseFacility first (componentOctets c))) ≡ some (componentOctets c))
+    × (facility (componentOctets c) ≡ shows c)
+sent-back c h first = (register-found first (componentOctets c), facility-found first (componentOctets c), release-found first (componentOctets c), read-back c h)

@@ -7,7 +7,7 @@ ghost use lib.ListN.{length};
 ghost use Rattle.octets.specs.Splice.{splice};
 ghost use Rattle.places.specs.Seen.{idSeen};
 ghost use Rattle.components.specs.Component.{invoke, error, reject};
-ghost use Rattle.components.specs.Written.{octets, answer, codedLength, answerLength};
+ghost use Rattle.components.specs.Written.{componentOctets, answer, codedLength, answerLength};
 ghost use Rattle.messages.specs.Layout.{register, facilityMessage, release, releaseCause, releaseFacility};
 
 // A REGISTER around an Invoke with a parameter of so many octets.
@@ -19,7 +19,7 @@ pub fn register_length(n: usize) -> usize
 }
 
 // A FACILITY around an Invoke or a Return error.
-pub fn coded_length(n: usize) -> usize
+pub fn facility_length(n: usize) -> usize
     requires { ⌜ n ≤ 255 ⌝ }
     ensures { λ r. ⌜ r ≡ 3 + codedLength n ⌝ }
 {
@@ -27,14 +27,14 @@ pub fn coded_length(n: usize) -> usize
 }
 
 // A FACILITY around a Return result.
-pub fn answer_length(n: usize) -> usize
+pub fn facility_answer_length(n: usize) -> usize
     requires { ⌜ n ≤ 255 ⌝ }
     ensures { λ r. ⌜ r ≡ 3 + answerLength n ⌝ }
 {
     3 + writing::answer_length(n)
 }
 
-pub fn write_release(buf: &mut [u8], first: u8) -> usize
+pub fn put_release(buf: &mut [u8], first: u8) -> usize
     requires { ⌜ 2 ≤ length (now buf) ⌝ }
     ensures writes { λ _. ⌜ now (buf .exit) ≡ splice (now (buf .entry)) 0 (release first) ⌝ }
     ensures next { λ r. ⌜ r ≡ length (release first) ⌝ }
@@ -44,7 +44,7 @@ pub fn write_release(buf: &mut [u8], first: u8) -> usize
     2
 }
 
-pub fn write_release_cause(buf: &mut [u8], first: u8, cause: u8) -> usize
+pub fn put_release_cause(buf: &mut [u8], first: u8, cause: u8) -> usize
     requires { ⌜ (cause < 128) × (6 ≤ length (now buf)) ⌝ }
     ensures writes { λ _. ⌜ now (buf .exit) ≡ splice (now (buf .entry)) 0 (releaseCause first cause) ⌝ }
     ensures next { λ r. ⌜ r ≡ length (releaseCause first cause) ⌝ }
@@ -55,10 +55,10 @@ pub fn write_release_cause(buf: &mut [u8], first: u8, cause: u8) -> usize
 }
 
 // RELEASE COMPLETE with a Reject: at most twelve octets.
-pub fn write_release_reject(buf: &mut [u8], first: u8, id: Id, tag: u8, problem: u8) -> usize
+pub fn put_release_reject(buf: &mut [u8], first: u8, id: Id, tag: u8, problem: u8) -> usize
     requires { ⌜ 12 ≤ length (now buf) ⌝ }
-    ensures writes { λ _. ⌜ now (buf .exit) ≡ splice (now (buf .entry)) 0 (releaseFacility first (octets (reject (idSeen id) tag problem))) ⌝ }
-    ensures next { λ r. ⌜ r ≡ length (releaseFacility first (octets (reject (idSeen id) tag problem))) ⌝ }
+    ensures writes { λ _. ⌜ now (buf .exit) ≡ splice (now (buf .entry)) 0 (releaseFacility first (componentOctets (reject (idSeen id) tag problem))) ⌝ }
+    ensures next { λ r. ⌜ r ≡ length (releaseFacility first (componentOctets (reject (idSeen id) tag problem))) ⌝ }
 {
     let head = [first, 0x2A, 0x1C, writing::reject_length(id)];
     octets::put(buf, 0, &head);
@@ -66,10 +66,10 @@ pub fn write_release_reject(buf: &mut [u8], first: u8, id: Id, tag: u8, problem:
 }
 
 // A REGISTER that begins a transaction.
-pub fn write_register(buf: &mut [u8], first: u8, id: i8, operation: u8, p: &[u8]) -> usize
+pub fn put_register(buf: &mut [u8], first: u8, id: i8, operation: u8, p: &[u8]) -> usize
     requires { ⌜ (length (now p) ≤ 255) × ((7 + codedLength (length (now p)) ≤ 255) × (7 + codedLength (length (now p)) ≤ length (now buf))) ⌝ }
-    ensures writes { λ _. ⌜ now (buf .exit) ≡ splice (now (buf .entry)) 0 (register first (octets (invoke id none operation (now (p .entry))))) ⌝ }
-    ensures next { λ r. ⌜ r ≡ length (register first (octets (invoke id none operation (now (p .entry))))) ⌝ }
+    ensures writes { λ _. ⌜ now (buf .exit) ≡ splice (now (buf .entry)) 0 (register first (componentOctets (invoke id none operation (now (p .entry))))) ⌝ }
+    ensures next { λ r. ⌜ r ≡ length (register first (componentOctets (invoke id none operation (now (p .entry))))) ⌝ }
 {
     let head = [first, 0x3B, 0x1C, writing::coded_length(p.len()) as u8];
     octets::put(buf, 0, &head);
@@ -80,10 +80,10 @@ pub fn write_register(buf: &mut [u8], first: u8, id: i8, operation: u8, p: &[u8]
 }
 
 // A FACILITY with an Invoke.
-pub fn write_invoke(buf: &mut [u8], first: u8, id: i8, operation: u8, p: &[u8]) -> usize
+pub fn put_invoke(buf: &mut [u8], first: u8, id: i8, operation: u8, p: &[u8]) -> usize
     requires { ⌜ (length (now p) ≤ 255) × ((3 + codedLength (length (now p)) ≤ 255) × (3 + codedLength (length (now p)) ≤ length (now buf))) ⌝ }
-    ensures writes { λ _. ⌜ now (buf .exit) ≡ splice (now (buf .entry)) 0 (facilityMessage first (octets (invoke id none operation (now (p .entry))))) ⌝ }
-    ensures next { λ r. ⌜ r ≡ length (facilityMessage first (octets (invoke id none operation (now (p .entry))))) ⌝ }
+    ensures writes { λ _. ⌜ now (buf .exit) ≡ splice (now (buf .entry)) 0 (facilityMessage first (componentOctets (invoke id none operation (now (p .entry))))) ⌝ }
+    ensures next { λ r. ⌜ r ≡ length (facilityMessage first (componentOctets (invoke id none operation (now (p .entry))))) ⌝ }
 {
     let head = [first, 0x3A, writing::coded_length(p.len()) as u8];
     octets::put(buf, 0, &head);
@@ -91,10 +91,10 @@ pub fn write_invoke(buf: &mut [u8], first: u8, id: i8, operation: u8, p: &[u8]) 
 }
 
 // A FACILITY with a Return error.
-pub fn write_error(buf: &mut [u8], first: u8, id: i8, code: u8, p: &[u8]) -> usize
+pub fn put_error(buf: &mut [u8], first: u8, id: i8, code: u8, p: &[u8]) -> usize
     requires { ⌜ (length (now p) ≤ 255) × ((3 + codedLength (length (now p)) ≤ 255) × (3 + codedLength (length (now p)) ≤ length (now buf))) ⌝ }
-    ensures writes { λ _. ⌜ now (buf .exit) ≡ splice (now (buf .entry)) 0 (facilityMessage first (octets (error id code (now (p .entry))))) ⌝ }
-    ensures next { λ r. ⌜ r ≡ length (facilityMessage first (octets (error id code (now (p .entry))))) ⌝ }
+    ensures writes { λ _. ⌜ now (buf .exit) ≡ splice (now (buf .entry)) 0 (facilityMessage first (componentOctets (error id code (now (p .entry))))) ⌝ }
+    ensures next { λ r. ⌜ r ≡ length (facilityMessage first (componentOctets (error id code (now (p .entry))))) ⌝ }
 {
     let head = [first, 0x3A, writing::coded_length(p.len()) as u8];
     octets::put(buf, 0, &head);
@@ -102,10 +102,10 @@ pub fn write_error(buf: &mut [u8], first: u8, id: i8, code: u8, p: &[u8]) -> usi
 }
 
 // A FACILITY with a Return result.
-pub fn write_answer(buf: &mut [u8], first: u8, id: i8, operation: u8, p: &[u8]) -> usize
+pub fn put_answer(buf: &mut [u8], first: u8, id: i8, operation: u8, p: &[u8]) -> usize
     requires { ⌜ (length (now p) ≤ 255) × ((3 + answerLength (length (now p)) ≤ 255) × (3 + answerLength (length (now p)) ≤ length (now buf))) ⌝ }
-    ensures writes { λ _. ⌜ now (buf .exit) ≡ splice (now (buf .entry)) 0 (facilityMessage first (octets (answer id operation (now (p .entry))))) ⌝ }
-    ensures next { λ r. ⌜ r ≡ length (facilityMessage first (octets (answer id operation (now (p .entry))))) ⌝ }
+    ensures writes { λ _. ⌜ now (buf .exit) ≡ splice (now (buf .entry)) 0 (facilityMessage first (componentOctets (answer id operation (now (p .entry))))) ⌝ }
+    ensures next { λ r. ⌜ r ≡ length (facilityMessage first (componentOctets (answer id operation (now (p .entry))))) ⌝ }
 {
     let head = [first, 0x3A, writing::answer_length(p.len()) as u8];
     octets::put(buf, 0, &head);

@@ -132,7 +132,7 @@ text-some true o g e = readable-taken o g e
 text-some false o g e = cc
 
 pub text-untold : (c : Component) (behind : List ℕ) (n : ℕ) → fault mistyped ≡ cond (extensible c) (refusal (ussd (parameterOf c))) (fault mistyped)
-    → noText ≡ textView n (some (record { value = c; rest = behind }))
+    → noText ≡ textView n (some (record { component = c; behind = behind }))
 unfolding textView textOf
 text-untold c behind n e = rw (text-none (extensible c) (ussd (parameterOf c)) e)
 
@@ -170,7 +170,7 @@ module _ (r : Shown) (s : List ℕ) (m e : ℕ) (q : m ≡ parameterLength r) (h
         scheme = scheme;
         string = record { start = 2 + (e - m) + from; end = 2 + (e - m) + to };
         tail = record { start = 2 + (e - m) + to; end = 2 + e };
-      } ≡ textView (2 + length s) (some (record { value = shownSeen (take e s) r; rest = drop e s }))
+      } ≡ textView (2 + length s) (some (record { component = shownSeen (take e s) r; behind = drop e s }))
   unfolding textView textOf
   text-taken scheme from to i j u =
       let p = between (e - m) e s in

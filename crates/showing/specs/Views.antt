@@ -8,6 +8,7 @@ use lib.ListN.{length}
 use Rattle.octets.specs.Reader.{Taken}
 use Rattle.parameters.specs.Parameter.{Text}
 use Rattle.components.specs.Component.{Component, invoke, result, error, reject, parameterOf, invokeTag, resultTag, errorTag, rejectTag}
+use Rattle.components.specs.Shows.{Shows}
 use Rattle.components.specs.Texts.{textOf}
 use Rattle.showing.specs.declared.Span.{Span}
 use Rattle.showing.specs.declared.ComponentView.{ComponentView}
@@ -33,7 +34,8 @@ abbrev pub numberOr0 : Option ℕ → ℕ
 numberOr0 none = 0
 numberOr0 (some n) = n
 
--- "kind, id, linked id, operation, error code, problem, the parameter as a part": what is not there is 0
+-- "kind, id, linked id, operation, error code, problem, the parameter as a part": a number that is not there is 0, a parameter
+-- that is not there is empty at its place
 abbrev pub viewOf : Component → Span → ComponentView
 viewOf (invoke id linked operation p) span =
     record {
@@ -108,9 +110,9 @@ noComponent =
       parameter = nowhere;
     }
 
-unfoldable pub componentView : ℕ → Option (Taken Component) → ComponentView
+unfoldable pub componentView : ℕ → Shows → ComponentView
 componentView n none = noComponent
-componentView n (some t) = viewOf (t .value) (spanOf n (parameterOf (t .value)) (t .rest))
+componentView n (some t) = viewOf (t .component) (spanOf n (parameterOf (t .component)) (t .behind))
 
 abbrev pub noText : TextView
 noText = record { «is_there» = false; scheme = 0; string = nowhere; tail = nowhere }
@@ -126,9 +128,9 @@ textIn n behind (some g) =
       tail = spanOf n (g .rest) behind;
     }
 
-unfoldable pub textView : ℕ → Option (Taken Component) → TextView
+unfoldable pub textView : ℕ → Shows → TextView
 textView n none = noText
-textView n (some t) = textIn n (t .rest) (textOf (t .value))
+textView n (some t) = textIn n (t .behind) (textOf (t .component))
 
 -- "The contents of the 08 are handed back as a part, unread"
 unfoldable pub causeView : ℕ → Option (Taken (List ℕ)) → CauseView

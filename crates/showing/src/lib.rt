@@ -1,7 +1,7 @@
 // What C gets to see of a component. Places are counted in the whole message; the two octets before `s` are its head.
 use components::shown::Operation;
 use components::shown::Shown;
-use messages::scan::Part;
+use octets::MaybePart;
 use parameters::text::Ussd;
 use places::Id;
 ghost use mathlib.Core.Path.{_≡_};
@@ -11,7 +11,7 @@ ghost use Prim.Native.Nat.{ℕ, _+_, _≤_};
 ghost use lib.ListN.{length, take, drop};
 ghost use Rattle.places.specs.Seen.{idSeen};
 ghost use Rattle.components.specs.Seen.{operationSeen, shownSeen, TextTold, parameterLength};
-ghost use Rattle.messages.specs.Seen.{partSeen, PartWithin};
+ghost use Rattle.octets.specs.Seen.{partFound, PartWithin};
 ghost use Rattle.showing.specs.Views.{isThere, idOr0, numberOr0, viewOf, componentView, textView, causeView, noComponent, noText};
 
 // From one octet of the message up to, not including, another.
@@ -21,7 +21,7 @@ pub struct Span {
     pub end: usize,
 }
 
-// A component; kind is its outer tag, 0 for nothing. What is not there is 0.
+// A component; kind is its outer tag, 0 for nothing. A number that is not there is 0; a parameter is empty at its place.
 #[repr(C)]
 pub struct ComponentView {
     pub kind: u8,
@@ -207,7 +207,7 @@ pub fn no_component() -> ComponentView
 // A component whose Facility value ends at a place of s.
 pub fn component_view(s: &[u8], shown: Shown, end: usize) -> ComponentView
     requires { ⌜ (parameterLength shown ≤ end) × (end ≤ length (now s)) ⌝ }
-    ensures { λ r. ⌜ r ≡ componentView (2 + length (now (s .entry))) (some (record { value = shownSeen (take end (now (s .entry))) shown; rest = drop end (now (s .entry)) })) ⌝ }
+    ensures { λ r. ⌜ r ≡ componentView (2 + length (now (s .entry))) (some (record { component = shownSeen (take end (now (s .entry))) shown; behind = drop end (now (s .entry)) })) ⌝ }
 {
     let n = components::shown::parameter_length(shown);
     let span = Span {
@@ -231,7 +231,7 @@ pub fn no_text() -> TextView
 // The text that a component is told with, whose Facility value ends at a place of s.
 pub fn text_view(s: &[u8], shown: Shown, end: usize, text: Ussd) -> TextView
     requires { ⌜ ((parameterLength shown ≤ end) × (end ≤ length (now s))) × TextTold (shownSeen (take end (now s)) shown) text ⌝ }
-    ensures { λ r. ⌜ r ≡ textView (2 + length (now (s .entry))) (some (record { value = shownSeen (take end (now (s .entry))) shown; rest = drop end (now (s .entry)) })) ⌝ }
+    ensures { λ r. ⌜ r ≡ textView (2 + length (now (s .entry))) (some (record { component = shownSeen (take end (now (s .entry))) shown; behind = drop end (now (s .entry)) })) ⌝ }
 {
     let Ussd::Says {
         scheme,
@@ -257,11 +257,11 @@ pub fn text_view(s: &[u8], shown: Shown, end: usize, text: Ussd) -> TextView
 }
 
 // The part of a cause element, found in s.
-pub fn cause_view(s: &[u8], cause: Part) -> CauseView
+pub fn cause_view(s: &[u8], cause: MaybePart) -> CauseView
     requires { ⌜ PartWithin (now s) cause ⌝ }
-    ensures { λ r. ⌜ r ≡ causeView (2 + length (now (s .entry))) (partSeen (now (s .entry)) cause) ⌝ }
+    ensures { λ r. ⌜ r ≡ causeView (2 + length (now (s .entry))) (partFound (now (s .entry)) cause) ⌝ }
 {
-    let Part::Between { start, end } = cause else {
+    let MaybePart::Between { start, end } = cause else {
         return CauseView {
             is_there: false,
             contents: Span { start: 0, end: 0 },

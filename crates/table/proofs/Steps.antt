@@ -3,16 +3,15 @@ use mathlib.Core.Path.{_≡_, refl, ap}
 use mathlib.Core.Bool.{Bool, true, false, cond, _&&_}
 use mathlib.Core.List.{List}
 use mathlib.Core.Option.{none, some}
-use Prim.Native.Nat.{ℕ, zero, suc, _+_, _*_, _-_, _<_, _≤_}
+use Prim.Native.Nat.{ℕ, suc, _+_, _*_, _-_, _<_, _≤_}
 use native.Mathlib.Nat.{le-antisymm}
 use native.Mathlib.Numerals.{add-one}
 use native.Mathlib.Omega.{arith}
-use borrow.Author.Tests.{eqb-true, eqb-false, eq-eqb, ne-eqb, le-leb, lt-leb}
+use borrow.Author.Tests.{eq-eqb, ne-eqb, le-leb, lt-leb}
 use lib.Dec.{eqb}
 use lib.ListN.{length, getD}
-use Rattle.octets.proofs.TestLaws.{both}
 use Rattle.codes.specs.Operations.{begins, waits}
-use Rattle.table.specs.Table.{size, named, hasOwn, hasPeer, Image, imageAt, soundIn, soundState, soundImage, entryOf, entryAt, soundEntries, zeros, isNew, valid, lowestFrom}
+use Rattle.table.specs.Table.{size, named, hasOwn, hasPeer, Image, imageAt, soundIn, soundState, soundImage, entryOf, entryAt, soundEntries, valid, lowestFrom}
 
 side : (used : Bool) (listed : ℕ → Bool) (id operation : ℕ)
     → cond used (listed operation) (eqb id 0 && eqb operation 0) ≡ soundIn used listed id operation
@@ -46,42 +45,6 @@ other-length t n = rw (ne-eqb (length t) 70 n)
 pub all-seen : (t : List ℕ) (k : ℕ) → length t ≡ 70 → k ≤ 14 → 14 ≤ k → soundEntries t k ≡ valid t
 unfolding valid
 all-seen t k e l g = rw (eq-eqb (length t) 70 e) (ap (soundEntries t) (le-antisymm l g))
-
--- an image of zeros: every octet is 0, so every entry is sound
-at-or-below : (t : List ℕ) (n k : ℕ) (b : Bool) → eqb k n ≡ b → k < suc n → eqb (getD t n 0) 0 ≡ true → (k < n → getD t k 0 ≡ 0) → getD t k 0 ≡ 0
-at-or-below t n k true s h q below = rw (eqb-true k n s) (eqb-true (getD t n 0) 0 q)
-at-or-below t n k false s h q below = let d = eqb-false k n s in below (omega (arith, d))
-
-zero-at : (t : List ℕ) (n k : ℕ) → zeros t n ≡ true → k < n → getD t k 0 ≡ 0
-unfolding zeros
-zero-at t zero k e h = absurd (omega arith)
-zero-at t (suc n) k e h =
-    let w = both (zeros t n) (eqb (getD t n 0) 0) e in
-    at-or-below t n k (eqb k n) refl h (w .1) (λ l. zero-at t n k (w .0) l)
-
-zero-image : (t : List ℕ) (k : ℕ) → zeros t 70 ≡ true → k < 14 → soundImage (imageAt t k) ≡ true
-unfolding soundImage
-zero-image t k e h =
-    let z : (i : ℕ) → i < 70 → getD t i 0 ≡ 0 = λ i l. zero-at t 70 i e l in
-    rw (z (size * k) (omega arith), z (size * k + 1) (omega arith), z (size * k + 2) (omega arith), z (size * k + 3) (omega arith), z (size * k + 4) (omega arith))
-
-zero-entries : (t : List ℕ) (k : ℕ) → zeros t 70 ≡ true → k ≤ 14 → soundEntries t k ≡ true
-unfolding soundEntries
-zero-entries t zero e h = refl
-zero-entries t (suc k) e h = rw (zero-entries t k e (omega arith), zero-image t k e (omega arith))
-
-pub fresh-is : (t : List ℕ) → length t ≡ 70 → zeros t (length t) ≡ true → true ≡ valid t
-unfolding valid
-fresh-is t l e = rw (eq-eqb (length t) 70 l, zero-entries t 14 (rw l at e) (omega arith))
-
-pub new-is : (t : List ℕ) → isNew t ≡ true → true ≡ valid t
-new-is t e = let w = both (eqb (length t) 70) _ e in fresh-is t (eqb-true (length t) 70 (w .0)) (w .1)
-
-pub new-zero : (t : List ℕ) (k : ℕ) → isNew t ≡ true → k < 70 → getD t k 0 ≡ 0
-new-zero t k e h =
-    let w = both (eqb (length t) 70) (zeros t (length t)) e in
-    let l = eqb-true (length t) 70 (w .0) in
-    zero-at t (length t) k (w .1) (omega arith)
 
 -- two entries more
 pub two-more : (t : List ℕ) (n : ℕ) → soundEntries t (2 * (n + 1)) ≡ (soundEntries t (2 * n) && soundImage (imageAt t (2 * n))) && soundImage (imageAt t (2 * n + 1))

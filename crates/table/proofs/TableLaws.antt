@@ -11,16 +11,13 @@ use lib.Dec.{eqb, ltb, lit<}
 use lib.IntN.{ℤ}
 use lib.ListN.{length, getD, replicate, getD-replicate}
 use lib.Seq.{ext-getD}
-use mir.Syntax.{w8}
-use mir.Facts.{sfits-toZ}
 use Rattle.octets.proofs.TestLaws.{both}
 use Rattle.octets.specs.Octets.{Octets}
 use Rattle.octets.specs.Splice.{splice}
 use Rattle.octets.proofs.SpliceLaws.{length-splice, getD-within, getD-before, getD-behind}
 use Rattle.codes.specs.Operations.{begins, waits}
-use Rattle.codes.proofs.IdLaws.{IsId, octet-back, id-back}
-use Rattle.table.specs.Table.{Waiting, Entry, closed, size, hasOwn, hasPeer, Image, imageAt, waitingIn, entryOf, soundIn, soundState, soundImage, entryAt, soundEntries, isNew, valid, idIn, operationIn, null, one, stateOf, octets, withEntry, lowestFrom, lowestClosed, holdsOne, holds}
-use Rattle.table.proofs.Steps.{new-is, new-zero}
+use Rattle.codes.proofs.IdLaws.{IsId, is-id, octet-back, id-back}
+use Rattle.table.specs.Table.{Waiting, Entry, closed, size, hasOwn, hasPeer, Image, imageAt, waitingIn, entryOf, soundIn, soundState, soundImage, entryAt, soundEntries, valid, idIn, operationIn, null, added, stateOf, entryOctets, withEntry, lowestFrom, lowestClosed, holdsOne, holds}
 
 three : (a b c : Bool) → (a && b && c) ≡ true → (a ≡ true) × (b ≡ true) × (c ≡ true)
 three true true c e = (refl, refl, e)
@@ -45,7 +42,7 @@ imageOf e =
 
 -- the state of an open entry
 abbrev opened : Bool → Bool → ℕ
-opened own peer = 1 + one own 2 + one peer 4
+opened own peer = 1 + added own 2 + added peer 4
 
 -- what is read of it
 bits : (p q : Bool) → (eqb (opened p q) 0 ≡ false) × (hasOwn (opened p q) ≡ p) × (hasPeer (opened p q) ≡ q) × (soundState (opened p q) ≡ true)
@@ -111,7 +108,7 @@ module _ (listed : ℕ → Bool) where
       (refl, sym (eqb-true id 0 (w .0)), sym (eqb-true operation 0 (w .1)))
 
 side-ids : (b : Bool) (id operation : ℕ) → id < 256 → Ids (waitingIn b id operation)
-side-ids true id operation l = (sfits-toZ {w = w8} (record { fits = l }), tt)
+side-ids true id operation l = (is-id id l, tt)
 side-ids false id operation l = tt
 
 module _ (o : Bool) (p q : List Waiting) where
@@ -177,22 +174,22 @@ image-back i h l m =
     let q = side-octets waits (hasPeer (i .state)) (i .peerId) (i .peerOperation) (w .2) m in
     rw (p .0, p .1, p .2, q .0, q .1, q .2, state-back (i .state) (w .0))
 
-pub closed-octets : octets closed ≡ 0 ∷ 0 ∷ 0 ∷ 0 ∷ 0 ∷ []
-unfolding octets stateOf
+pub closed-octets : entryOctets closed ≡ 0 ∷ 0 ∷ 0 ∷ 0 ∷ 0 ∷ []
+unfolding entryOctets stateOf
 closed-octets = refl
 
 -- an entry written into a table in which it fits
 module _ (t : List ℕ) (k : ℕ) (e : Entry) (fits : size * k + size ≤ length t) where
   pub length-with : length (withEntry t k e) ≡ length t
-  unfolding withEntry octets
-  length-with = length-splice t (size * k) (octets e) fits
+  unfolding withEntry entryOctets
+  length-with = length-splice t (size * k) (entryOctets e) fits
 
-  octet : (i : ℕ) → i < 5 → getD (withEntry t k e) (size * k + i) 0 ≡ getD (octets e) i 0
-  unfolding withEntry octets
-  octet i l = getD-within t (size * k) (octets e) i (omega arith) l
+  octet : (i : ℕ) → i < 5 → getD (withEntry t k e) (size * k + i) 0 ≡ getD (entryOctets e) i 0
+  unfolding withEntry entryOctets
+  octet i l = getD-within t (size * k) (entryOctets e) i (omega arith) l
 
   image-written : imageAt (withEntry t k e) k ≡ imageOf e
-  unfolding octets
+  unfolding entryOctets
   image-written =
       let z : getD (withEntry t k e) (size * k) 0 ≡ stateOf e = rw add-zero at (octet 0 (lit< tt)) in
       rw (z, octet 1 (lit< tt), octet 2 (lit< tt), octet 3 (lit< tt), octet 4 (lit< tt))
@@ -202,14 +199,14 @@ module _ (t : List ℕ) (k : ℕ) (e : Entry) (fits : size * k + size ≤ length
   read-written h i j = rw image-written (entry-back (e .isOpen) (e .own) (e .peer) h i j)
 
   other : (j : ℕ) → (j ≡ k → ⊥) → (b : Bool) → ltb j k ≡ b → (i : ℕ) → i < 5 → getD (withEntry t k e) (size * j + i) 0 ≡ getD t (size * j + i) 0
-  unfolding withEntry octets
+  unfolding withEntry entryOctets
   other j n true q i l =
       let z = ltb-true j k q in
-      getD-before t (size * k) (octets e) (size * j + i) (omega arith) (omega arith)
+      getD-before t (size * k) (entryOctets e) (size * j + i) (omega arith) (omega arith)
   other j n false q i l =
       let z = ltb-false j k q in
       let y : k < j = omega arith in
-      getD-behind t (size * k) (octets e) (size * j + i) (omega arith) (omega arith)
+      getD-behind t (size * k) (entryOctets e) (size * j + i) (omega arith) (omega arith)
 
 pub images-stay : (t : List ℕ) (j k : ℕ) (e : Entry) → size * k + size ≤ length t → (j ≡ k → ⊥) → imageAt (withEntry t k e) j ≡ imageAt t j
 images-stay t j k e l n =
@@ -294,7 +291,7 @@ same-octet t k f i false true p q =
 
 -- an entry written back unchanged changes nothing
 pub same-again : (t : List ℕ) (k : ℕ) → valid t ≡ true → k < 14 → Octets t → withEntry t k (entryAt t k) ≡ t
-unfolding withEntry octets entryAt
+unfolding withEntry entryOctets entryAt
 same-again t k h l o =
     let v = valid-each t h in
     let f : size * k + size ≤ length t = omega (arith, v .0) in
@@ -302,14 +299,6 @@ same-again t k h l o =
     ap (λ (i : Image). splice t (size * k) (imageOctets i)) e
     ∙ ext-getD 0 (splice t (size * k) (imageOctets (imageAt t k))) t (length-splice t (size * k) (imageOctets (imageAt t k)) f)
     (λ i m. same-octet t k f i (ltb i (size * k)) (ltb i (size * k + size)) refl refl)
-
--- an image as it is at the start
-pub new-valid : (t : List ℕ) → isNew t ≡ true → valid t ≡ true
-new-valid t e = sym (new-is t e)
-
-pub new-closed : (t : List ℕ) (k : ℕ) → isNew t ≡ true → k < 14 → entryAt t k ≡ closed
-unfolding entryAt entryOf
-new-closed t k e h = rw (new-zero t (size * k) e (omega arith))
 
 pub valid-zero : valid (replicate 70 0) ≡ true
 unfolding valid soundEntries soundImage

@@ -35,12 +35,12 @@ abbrev pub imageLength : ℕ
 imageLength = 70
 
 -- "seven that we began (values 0 to 6), then seven the network began. Flag and value pick the entry." Flag 1 is ours.
-abbrev pub place : ℕ → ℕ → ℕ
-place flag value = cond (eqb flag 1) value (7 + value)
+abbrev pub entryNumber : ℕ → ℕ → ℕ
+entryNumber flag value = cond (eqb flag 1) value (7 + value)
 
 -- "a flag over 1 or a value over 6 is 22": no such entry
 abbrev pub named : ℕ → ℕ → Option ℕ
-named flag value = cond (leb flag 1 && leb value 6) (some (place flag value)) none
+named flag value = cond (leb flag 1 && leb value 6) (some (entryNumber flag value)) none
 
 -- "State 0 is closed; an open one is 1, plus 2 with an own invoke outstanding, plus 4 with a peer invoke outstanding."
 abbrev pub hasOwn : ℕ → Bool
@@ -101,14 +101,6 @@ unfoldable pub soundEntries : List ℕ → ℕ → Bool
 soundEntries table zero = true
 soundEntries table (suc n) = soundEntries table n && soundImage (imageAt table n)
 
--- the first n octets are 0, as at the start
-unfoldable pub zeros : List ℕ → ℕ → Bool
-zeros table zero = true
-zeros table (suc n) = zeros table n && eqb (getD table n 0) 0
-
-abbrev pub isNew : List ℕ → Bool
-isNew table = eqb (length table) imageLength && zeros table (length table)
-
 -- "Any other image is damaged."
 unfoldable pub valid : List ℕ → Bool
 valid table = eqb (length table) imageLength && soundEntries table entries
@@ -126,17 +118,18 @@ abbrev pub null : List Waiting → Bool
 null [] = true
 null (w ∷ ws) = false
 
-abbrev pub one : Bool → ℕ → ℕ
-one b n = cond b n 0
+-- what an invoke that waits adds to the state
+abbrev pub added : Bool → ℕ → ℕ
+added b n = cond b n 0
 
 unfoldable pub stateOf : Entry → ℕ
-stateOf e = cond (e .isOpen) (1 + one (not (null (e .own))) 2 + one (not (null (e .peer))) 4) 0
+stateOf e = cond (e .isOpen) (1 + added (not (null (e .own))) 2 + added (not (null (e .peer))) 4) 0
 
-unfoldable pub octets : Entry → List ℕ
-octets e = stateOf e ∷ idIn (e .own) ∷ operationIn (e .own) ∷ idIn (e .peer) ∷ operationIn (e .peer) ∷ []
+unfoldable pub entryOctets : Entry → List ℕ
+entryOctets e = stateOf e ∷ idIn (e .own) ∷ operationIn (e .own) ∷ idIn (e .peer) ∷ operationIn (e .peer) ∷ []
 
 unfoldable pub withEntry : List ℕ → ℕ → Entry → List ℕ
-withEntry table k e = splice table (size * k) (octets e)
+withEntry table k e = splice table (size * k) (entryOctets e)
 
 -- "A begin takes the lowest closed own value": among n values from v on
 unfoldable pub lowestFrom : List ℕ → ℕ → ℕ → Option ℕ

@@ -4,7 +4,7 @@ ghost use mathlib.Core.Bool.{cond, not, _&&_};
 ghost use Prim.Native.Nat.{_+_, _*_, _≤_};
 ghost use lib.ListN.{length, getD};
 ghost use lib.Dec.{eqb};
-ghost use Rattle.table.specs.Table.{size, imageAt, waitingIn, entryAt, soundImage, zeros, isNew, valid, idIn, operationIn, null, one, stateOf, withEntry, lowestClosed, named};
+ghost use Rattle.table.specs.Table.{size, imageAt, waitingIn, entryAt, soundImage, valid, idIn, operationIn, null, added, stateOf, withEntry, lowestClosed, named};
 ghost use Rattle.table.specs.Seen.{invokeSeen, slotSeen, namedSeen};
 
 // An invoke that may wait for its answer.
@@ -124,36 +124,10 @@ fn is_sound(table: &[u8], k: u8) -> bool
     is_image_sound(state, own_id, begun, peer_id, served)
 }
 
-// Whether every octet is 0, as at the start. Most messages find the table so, and this is told sixteen octets at a time.
-fn is_fresh(table: &[u8]) -> bool
-    ensures { λ r. ⌜ r ≡ zeros (now (table .entry)) (length (now (table .entry))) ⌝ }
-{
-    let mut zero = true;
-    let mut i = 0;
-    while i < table.len() {
-        zero = zero & (table[i] == 0);
-        i += 1;
-    }
-    zero
-}
-
-// The image as it is at the start: 70 octets of 0.
-pub fn is_new(table: &[u8]) -> bool
-    ensures { λ r. ⌜ r ≡ isNew (now (table .entry)) ⌝ }
-{
-    if table.len() == 70 {
-        return is_fresh(table);
-    }
-    false
-}
-
 // 70 octets and fourteen sound entries; any other image is damaged. Two entries a turn make it too long to be copied into each of its six callers.
 pub fn is_valid(table: &[u8]) -> bool
     ensures { λ r. ⌜ r ≡ valid (now (table .entry)) ⌝ }
 {
-    if is_new(table) {
-        return true;
-    }
     if table.len() != 70 {
         return false;
     }
@@ -186,7 +160,7 @@ fn operation_in(invoke: Invoke) -> u8
 
 // What an invoke adds to its entry's state.
 fn added(invoke: Invoke, n: u8) -> u8
-    ensures { λ r. ⌜ r ≡ one (not (null (invokeSeen invoke))) n ⌝ }
+    ensures { λ r. ⌜ r ≡ added (not (null (invokeSeen invoke))) n ⌝ }
     ensures { λ r. ⌜ r ≤ n ⌝ }
 {
     match invoke {

@@ -13,7 +13,7 @@ use Rattle.octets.proofs.SpliceLaws.{splice-front}
 use Rattle.table.specs.Table.{size, entryAt, withEntry}
 use Rattle.table.proofs.TableLaws.{others-stay}
 use Rattle.deciding.specs.Decision.{Decision, silent, withCause, withReject, onReject, released, taken}
-use Rattle.deciding.specs.Steps.{entryOf}
+use Rattle.deciding.specs.Steps.{pickedEntry}
 use Rattle.calling.specs.Calls.{Sending}
 use Rattle.telephone.specs.Outcome.{Outcome, untouched}
 use Rattle.telephone.specs.Receive.{sentBy, tableBy, act}
@@ -42,14 +42,14 @@ module _ (t m b : List ℕ) where
   reply-behind d = behind-stays b (sentBy m d)
 
   -- no entry changes but the message's own
-  pub others-kept : (d : Decision) (j : ℕ) → size * entryOf m + size ≤ length t → (j ≡ entryOf m → ⊥) → entryAt (act t m b d .table) j ≡ entryAt t j
+  pub others-kept : (d : Decision) (j : ℕ) → size * pickedEntry m + size ≤ length t → (j ≡ pickedEntry m → ⊥) → entryAt (act t m b d .table) j ≡ entryAt t j
   unfolding act
   others-kept (silent code) j h n = refl
-  others-kept (withCause number) j h n = others-stay t j (entryOf m) _ h n
-  others-kept (withReject id tag number) j h n = others-stay t j (entryOf m) _ h n
-  others-kept (onReject shown) j h n = others-stay t j (entryOf m) _ h n
-  others-kept (released shown cause) j h n = others-stay t j (entryOf m) _ h n
-  others-kept (taken entry shown) j h n = others-stay t j (entryOf m) _ h n
+  others-kept (withCause number) j h n = others-stay t j (pickedEntry m) _ h n
+  others-kept (withReject id tag number) j h n = others-stay t j (pickedEntry m) _ h n
+  others-kept (onReject shown) j h n = others-stay t j (pickedEntry m) _ h n
+  others-kept (released shown cause) j h n = others-stay t j (pickedEntry m) _ h n
+  others-kept (taken entry shown) j h n = others-stay t j (pickedEntry m) _ h n
 
 module _ (t b : List ℕ) (value : Sending → ℕ) where
   pub call-refused : (n : ℕ) → called t b value (fault n) ≡ untouched t b n

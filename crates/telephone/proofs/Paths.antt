@@ -15,23 +15,22 @@ use Rattle.octets.proofs.ReaderLaws.{sound-inj, through, passed}
 use Rattle.codes.specs.Operations.{begins}
 use Rattle.parameters.specs.Suits.{suits, InvokeWritten}
 use Rattle.components.specs.Component.{invoke, error}
-use Rattle.components.specs.Written.{octets, answer, codedLength, answerLength}
+use Rattle.components.specs.Written.{componentOctets, answer, codedLength, answerLength}
 use Rattle.messages.specs.Layout.{flag, value, register, facilityMessage}
-use Rattle.messages.specs.Seen.{partSeen, PartWithin}
-use Rattle.messages.specs.declared.scan.Part.{Part}
+use Rattle.octets.specs.Seen.{partFound, PartWithin}
+use Rattle.octets.specs.declared.MaybePart.{MaybePart}
 use Rattle.table.specs.Table.{size, valid, lowestClosed, withEntry}
 use Rattle.table.proofs.TableLaws.{lowest-closed-is}
-use Rattle.calling.specs.Calls.{Sending, orRefused, fitting, begin}
+use Rattle.calling.specs.Calls.{Sending, orRefused, fitting, sendBegin}
 use Rattle.calling.proofs.Lengths.{register-octets, facility-invoke, facility-error, facility-answer}
 use Rattle.showing.specs.Views.{componentView, textView, causeView}
 use Rattle.deciding.specs.Decision.{Decision}
-use Rattle.deciding.specs.Steps.{firstOf, entryOf, decide}
+use Rattle.deciding.specs.Steps.{firstOctet, pickedEntry}
 use Rattle.deciding.specs.Seen.{toldSeen, actSeen, ActWithin, decisionSeen, DecisionWithin, actsNot, isSilent, Ready}
 use Rattle.deciding.specs.declared.Told.{Told}
 use Rattle.deciding.specs.declared.Act.{Act}
 use Rattle.deciding.specs.declared.Decision.{Decision as Made}
-use Rattle.menus.specs.Menu.{menuEntry, menuShown, menuDecision}
-use Rattle.telephone.specs.Receive.{verdictOf, sentBy, tableBy, causeBy, act, receive}
+use Rattle.telephone.specs.Receive.{verdictOf, sentBy, tableBy, causeBy, act}
 use Rattle.telephone.specs.Calls.{called}
 use Rattle.telephone.specs.FromC.{shownAs, receivedOf, withoutCause, ActedAs, calledOf}
 use Rattle.telephone.specs.declared.receive.Acted.{Acted}
@@ -42,20 +41,14 @@ place-most true v h = omega arith
 place-most false v h = omega arith
 
 -- the entry of a message that is acted on lies in the image
-pub entry-fits : (t m : List ℕ) (room : ℕ) → Ready t m room → size * entryOf m + size ≤ length t
-unfolding entryOf
-entry-fits t m room h = let k = place-most (eqb (flag (firstOf m)) 1) (value (firstOf m)) (h .1 .1 .1) in let l = h .0 in omega arith
+pub entry-fits : (t m : List ℕ) (room : ℕ) → Ready t m room → size * pickedEntry m + size ≤ length t
+unfolding pickedEntry
+entry-fits t m room h = let k = place-most (eqb (flag (firstOctet m)) 1) (value (firstOctet m)) (h .1 .1 .1) in let l = h .0 in omega arith
 
 -- nothing written leaves the buffer as lent
 pub splice-none : (b : List ℕ) → b ≡ splice b 0 []
 unfolding splice
 splice-none b = refl
-
--- the usual menu is taken
-pub menu-taken : (t m b : List ℕ) (r : Received) (t′ : List ℕ) → decide t m (length b) ≡ menuDecision m → r ≡ shownAs (length m) 0 0 (menuShown m) none → t′ ≡ withEntry t (entryOf m) (menuEntry m)
-    → (r ≡ receivedOf (length m) (receive t m b)) × ((b ≡ receive t m b .buffer) × (t′ ≡ receive t m b .table))
-unfolding receive act
-menu-taken t m b r t′ d e f = rw d (e, (splice-none b, f))
 
 -- what is done is told by the case alone
 module _ (t m b : List ℕ) (d : Made) (a : Act) (e : d .act ≡ a) where
@@ -66,7 +59,7 @@ module _ (t m b : List ℕ) (d : Made) (a : Act) (e : d .act ≡ a) where
   seen-as = ap (λ (x : Act). actSeen (drop 2 m) x (toldSeen (drop 2 m) (d .told))) e
 
   pub done : (r : Acted) (b′ t′ : List ℕ) → r .code ≡ verdictOf told-as → r .written ≡ length (sentBy m told-as)
-      → partSeen (drop 2 m) (r .cause) ≡ causeBy told-as → PartWithin (drop 2 m) (r .cause) → b′ ≡ splice b 0 (sentBy m told-as) → t′ ≡ tableBy t m told-as
+      → partFound (drop 2 m) (r .cause) ≡ causeBy told-as → PartWithin (drop 2 m) (r .cause) → b′ ≡ splice b 0 (sentBy m told-as) → t′ ≡ tableBy t m told-as
       → ActedAs (drop 2 m) r (act t m b (decisionSeen (drop 2 m) d))
       × ((b′ ≡ act t m b (decisionSeen (drop 2 m) d) .buffer) × (t′ ≡ act t m b (decisionSeen (drop 2 m) d) .table))
   unfolding act
@@ -85,7 +78,7 @@ acts d a e n = ap (λ (x : Act). actsNot x) e ∙ n
 pub cause-small : (s : List ℕ) (d : Made) (n : ℕ) → d .act ≡ Act.WithCause n → DecisionWithin s d → n < 128
 cause-small s d n e h = (rw e at (h .1)) .1
 
-pub cause-within : (s : List ℕ) (d : Made) (p : Part) → d .act ≡ Act.Released p → DecisionWithin s d → PartWithin s p
+pub cause-within : (s : List ℕ) (d : Made) (p : MaybePart) → d .act ≡ Act.Released p → DecisionWithin s d → PartWithin s p
 cause-within s d p e h = rw e at (h .1)
 
 -- what is shown of the octets behind the head is shown of the message
@@ -106,7 +99,7 @@ module _ (t m b : List ℕ) where
 
   pub shown-as : (d : Made) (x : Acted) (p : List ℕ) (r : Received) → (isSilent d ≡ false → Ready t m (length b)) → DecisionWithin (drop 2 m) d → p ≡ drop 2 m
       → ActedAs (drop 2 m) x (act t m b (decisionSeen (drop 2 m) d))
-      → r ≡ shownAs (2 + length p) (x .code) (x .written) (toldSeen p (d .told)) (partSeen p (x .cause))
+      → r ≡ shownAs (2 + length p) (x .code) (x .written) (toldSeen p (d .told)) (partFound p (x .cause))
       → r ≡ receivedOf (length m) (act t m b (decisionSeen (drop 2 m) d))
   unfolding act
   shown-as d x p r h w e f q =
@@ -135,8 +128,8 @@ unfolding fitting
 fitting-is room x s e = passed (leb (length (x .message)) 255) 26 _ s e λ a f. passed (leb (length (x .message)) room) 27 _ s f λ b g. sound-inj g
 
 -- the value that a begin takes is one of ours
-pub begin-value : (t : List ℕ) (room o : ℕ) (id : ℤ) (p : List ℕ) (s : Sending) → sound s ≡ begin t room o id p → s .entry < 7
-unfolding begin
+pub begin-value : (t : List ℕ) (room o : ℕ) (id : ℤ) (p : List ℕ) (s : Sending) → sound s ≡ sendBegin t room o id p → s .entry < 7
+unfolding sendBegin
 begin-value t room o id p s e =
     passed (valid t) 28 _ s (sym e) λ e₁ f₁.
     passed (begins o) 20 _ s f₁ λ e₂ f₂.
@@ -152,19 +145,19 @@ answer-least (suc n) = let e : eqb (suc n) 0 ≡ false = ne-eqb (suc n) 0 (λ z.
 
 -- a message that fits tells the room that its parts need
 module _ (first : ℕ) (id : ℤ) (o : ℕ) (p : List ℕ) (room : ℕ) where
-  pub register-room : length (register first (octets (invoke id none o p))) ≤ 255 → length (register first (octets (invoke id none o p))) ≤ room
+  pub register-room : length (register first (componentOctets (invoke id none o p))) ≤ 255 → length (register first (componentOctets (invoke id none o p))) ≤ room
       → (length p ≤ 255) × ((7 + codedLength (length p) ≤ 255) × (7 + codedLength (length p) ≤ room))
   register-room h k = let e = register-octets first id o p in (omega arith, (omega arith, omega arith))
 
-  pub invoke-room : length (facilityMessage first (octets (invoke id none o p))) ≤ 255 → length (facilityMessage first (octets (invoke id none o p))) ≤ room
+  pub invoke-room : length (facilityMessage first (componentOctets (invoke id none o p))) ≤ 255 → length (facilityMessage first (componentOctets (invoke id none o p))) ≤ room
       → (length p ≤ 255) × ((3 + codedLength (length p) ≤ 255) × (3 + codedLength (length p) ≤ room))
   invoke-room h k = let e = facility-invoke first id o p in (omega arith, (omega arith, omega arith))
 
-  pub error-room : length (facilityMessage first (octets (error id o p))) ≤ 255 → length (facilityMessage first (octets (error id o p))) ≤ room
+  pub error-room : length (facilityMessage first (componentOctets (error id o p))) ≤ 255 → length (facilityMessage first (componentOctets (error id o p))) ≤ room
       → (length p ≤ 255) × ((3 + codedLength (length p) ≤ 255) × (3 + codedLength (length p) ≤ room))
   error-room h k = let e = facility-error first id o p in (omega arith, (omega arith, omega arith))
 
-  pub answer-room : length (facilityMessage first (octets (answer id o p))) ≤ 255 → length (facilityMessage first (octets (answer id o p))) ≤ room
+  pub answer-room : length (facilityMessage first (componentOctets (answer id o p))) ≤ 255 → length (facilityMessage first (componentOctets (answer id o p))) ≤ room
       → (length p ≤ 255) × ((3 + answerLength (length p) ≤ 255) × (3 + answerLength (length p) ≤ room))
   answer-room h k =
       let e = facility-answer first id o p in

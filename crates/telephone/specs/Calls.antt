@@ -30,10 +30,10 @@ noValue s = 0
 
 -- our values are 0 to 6, and so are the numbers of their entries
 unfoldable pub begin : List ℕ → List ℕ → ℕ → ℤ → List ℕ → Outcome
-begin table buffer operation id p = called table buffer (λ s. s .entry) (calls.begin table (length buffer) operation id p)
+begin table buffer operation id p = called table buffer (λ s. s .entry) (calls.sendBegin table (length buffer) operation id p)
 
 unfoldable pub invokeWithin : List ℕ → List ℕ → ℕ → ℕ → ℕ → ℤ → List ℕ → Outcome
-invokeWithin table buffer flag value operation id p = called table buffer noValue (calls.invokeWithin table (length buffer) flag value operation id p)
+invokeWithin table buffer flag value operation id p = called table buffer noValue (calls.sendInvoke table (length buffer) flag value operation id p)
 
 unfoldable pub result : List ℕ → List ℕ → ℕ → ℕ → ℤ → List ℕ → Outcome
 result table buffer flag value id p = called table buffer noValue (calls.sendResult table (length buffer) flag value id p)

@@ -4,9 +4,9 @@ use mathlib.Core.Path.{_≡_}
 use mathlib.Core.List.{List}
 use mathlib.Core.Option.{Option}
 use Rattle.octets.specs.Reader.{Taken}
-use Rattle.messages.specs.Seen.{partSeen, PartWithin}
-use Rattle.messages.specs.declared.scan.Part.{Part}
-use Rattle.deciding.specs.Decision.{Shows}
+use Rattle.octets.specs.Seen.{partFound, PartWithin}
+use Rattle.octets.specs.declared.MaybePart.{MaybePart}
+use Rattle.components.specs.Shows.{Shows}
 use Rattle.showing.specs.Views.{componentView, textView, causeView}
 use Rattle.telephone.specs.Outcome.{Outcome}
 use Rattle.telephone.specs.declared.receive.Acted.{Acted}
@@ -29,10 +29,10 @@ receivedOf n o = shownAs n (o .code) (o .written) (o .shown) (o .cause)
 
 -- what is done, before it is shown; s are the octets behind the type
 abbrev pub ActedAs : List ℕ → Acted → Outcome → Type 0
-ActedAs s r o = (r .code ≡ o .code) × ((r .written ≡ o .written) × ((partSeen s (r .cause) ≡ o .cause) × PartWithin s (r .cause)))
+ActedAs s r o = (r .code ≡ o .code) × ((r .written ≡ o .written) × ((partFound s (r .cause) ≡ o .cause) × PartWithin s (r .cause)))
 
 abbrev pub withoutCause : ℕ → ℕ → Acted
-withoutCause code written = record { code = code; written = written; cause = Part.Nothing }
+withoutCause code written = record { code = code; written = written; cause = MaybePart.Nothing }
 
 abbrev pub calledOf : Outcome → Called
 calledOf o = record { code = o .code; value = o .value; written = o .written }

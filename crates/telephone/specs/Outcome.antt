@@ -3,7 +3,7 @@ use Prim.Native.Nat.{ℕ}
 use mathlib.Core.List.{List}
 use mathlib.Core.Option.{Option, none}
 use Rattle.octets.specs.Reader.{Taken}
-use Rattle.deciding.specs.Decision.{Shows}
+use Rattle.components.specs.Shows.{Shows}
 
 pub record Outcome : Type 0 where
   -- the verdict; 0 for a call that succeeds; the number of a refusal

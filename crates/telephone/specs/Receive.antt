@@ -6,11 +6,11 @@ use lib.ListN.{length}
 use Rattle.octets.specs.Reader.{Taken}
 use Rattle.octets.specs.Splice.{splice}
 use Rattle.components.specs.Component.{reject}
-use Rattle.components.specs.Written.{octets}
+use Rattle.components.specs.Written.{componentOctets}
 use Rattle.messages.specs.Layout.{release, releaseCause, releaseFacility}
 use Rattle.table.specs.Table.{closed, withEntry}
 use Rattle.deciding.specs.Decision.{Decision, silent, withCause, withReject, onReject, released, taken, shownBy}
-use Rattle.deciding.specs.Steps.{entryOf, replyFirst, decide}
+use Rattle.deciding.specs.Steps.{pickedEntry, replyFirst, decide}
 use Rattle.telephone.specs.Outcome.{Outcome, untouched}
 
 -- "Verdict"
@@ -26,7 +26,7 @@ verdictOf (taken entry shown) = 0
 abbrev pub sentBy : List ℕ → Decision → List ℕ
 sentBy m (silent code) = []
 sentBy m (withCause number) = releaseCause (replyFirst m) number
-sentBy m (withReject id tag number) = releaseFacility (replyFirst m) (octets (reject id tag number))
+sentBy m (withReject id tag number) = releaseFacility (replyFirst m) (componentOctets (reject id tag number))
 sentBy m (onReject shown) = release (replyFirst m)
 sentBy m (released shown cause) = []
 sentBy m (taken entry shown) = []
@@ -34,11 +34,11 @@ sentBy m (taken entry shown) = []
 -- "Table"
 abbrev pub tableBy : List ℕ → List ℕ → Decision → List ℕ
 tableBy table m (silent code) = table
-tableBy table m (withCause number) = withEntry table (entryOf m) closed
-tableBy table m (withReject id tag number) = withEntry table (entryOf m) closed
-tableBy table m (onReject shown) = withEntry table (entryOf m) closed
-tableBy table m (released shown cause) = withEntry table (entryOf m) closed
-tableBy table m (taken entry shown) = withEntry table (entryOf m) entry
+tableBy table m (withCause number) = withEntry table (pickedEntry m) closed
+tableBy table m (withReject id tag number) = withEntry table (pickedEntry m) closed
+tableBy table m (onReject shown) = withEntry table (pickedEntry m) closed
+tableBy table m (released shown cause) = withEntry table (pickedEntry m) closed
+tableBy table m (taken entry shown) = withEntry table (pickedEntry m) entry
 
 abbrev pub causeBy : Decision → Option (Taken (List ℕ))
 causeBy (silent code) = none

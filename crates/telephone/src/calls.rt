@@ -38,7 +38,7 @@ pub extern "C" fn smr_begin(
             operation: _,
         } => {
             let first = messages::layout::sent_first(1, entry);
-            let written = sending::write_register(buffer, first, id, operation, parameter);
+            let written = sending::put_register(buffer, first, id, operation, parameter);
             table::write_entry(table, entry, slot);
             return Called {
                 code: 0,
@@ -77,7 +77,7 @@ pub extern "C" fn smr_invoke(
             operation: _,
         } => {
             let first = messages::layout::sent_first(flag, value);
-            let written = sending::write_invoke(buffer, first, id, operation, parameter);
+            let written = sending::put_invoke(buffer, first, id, operation, parameter);
             table::write_entry(table, entry, slot);
             return Called {
                 code: 0,
@@ -115,7 +115,7 @@ pub extern "C" fn smr_result(
             operation,
         } => {
             let first = messages::layout::sent_first(flag, value);
-            let written = sending::write_answer(buffer, first, id, operation, parameter);
+            let written = sending::put_answer(buffer, first, id, operation, parameter);
             table::write_entry(table, entry, slot);
             return Called {
                 code: 0,
@@ -154,7 +154,7 @@ pub extern "C" fn smr_error(
             operation: _,
         } => {
             let first = messages::layout::sent_first(flag, value);
-            let written = sending::write_error(buffer, first, id, code, parameter);
+            let written = sending::put_error(buffer, first, id, code, parameter);
             table::write_entry(table, entry, slot);
             return Called {
                 code: 0,
@@ -185,7 +185,7 @@ pub extern "C" fn smr_release(table: &mut [u8], flag: u8, value: u8, buffer: &mu
             operation: _,
         } => {
             let first = messages::layout::sent_first(flag, value);
-            let written = sending::write_release(buffer, first);
+            let written = sending::put_release(buffer, first);
             table::write_entry(table, entry, slot);
             return Called {
                 code: 0,

@@ -2,23 +2,20 @@
 use deciding::Act;
 use deciding::Decision;
 use deciding::Told;
-use messages::scan::Part;
+use octets::MaybePart;
 use showing::CauseView;
 use showing::ComponentView;
 use showing::TextView;
 use table::Invoke;
 use table::Slot;
 ghost use mathlib.Core.Path.{_≡_};
-ghost use mathlib.Core.Bool.{true, false};
-ghost use mathlib.Core.Option.{none};
+ghost use mathlib.Core.Bool.{false};
 ghost use Prim.Native.Nat.{_+_, _*_, _≤_};
 ghost use lib.ListN.{length, drop};
 ghost use Rattle.octets.specs.Part.{between};
-ghost use Rattle.messages.specs.Seen.{partSeen, PartWithin};
+ghost use Rattle.octets.specs.Seen.{partFound, PartWithin};
 ghost use Rattle.table.specs.Table.{size, closed, withEntry};
 ghost use Rattle.deciding.specs.Seen.{toldSeen, ToldWithin, decisionSeen, DecisionWithin, isSilent, Ready};
-ghost use Rattle.deciding.specs.Steps.{entryOf};
-ghost use Rattle.menus.specs.Menu.{usualMenu, menuEntry, menuShown};
 ghost use Rattle.telephone.specs.Receive.{act, receive};
 ghost use Rattle.telephone.specs.FromC.{shownAs, receivedOf, withoutCause, ActedAs};
 
@@ -33,9 +30,9 @@ pub struct Received {
 }
 
 // What is shown, with the numbers of the call.
-fn show(s: &[u8], code: u8, written: usize, told: Told, cause: Part) -> Received
+fn show(s: &[u8], code: u8, written: usize, told: Told, cause: MaybePart) -> Received
     requires { ⌜ ToldWithin (now s) told × PartWithin (now s) cause ⌝ }
-    ensures { λ r. ⌜ r ≡ shownAs (2 + length (now (s .entry))) code written (toldSeen (now (s .entry)) told) (partSeen (now (s .entry)) cause) ⌝ }
+    ensures { λ r. ⌜ r ≡ shownAs (2 + length (now (s .entry))) code written (toldSeen (now (s .entry)) told) (partFound (now (s .entry)) cause) ⌝ }
 {
     match told {
         Told::Nothing => {
@@ -76,7 +73,7 @@ fn close(table: &mut [u8], k: u8)
 pub struct Acted {
     pub code: u8,
     pub written: usize,
-    pub cause: Part,
+    pub cause: MaybePart,
 }
 
 // What is done without a cause.
@@ -86,7 +83,7 @@ fn done(code: u8, written: usize) -> Acted
     Acted {
         code: code,
         written: written,
-        cause: Part::Nothing,
+        cause: MaybePart::Nothing,
     }
 }
 
@@ -97,7 +94,7 @@ fn act(table: &mut [u8], message: &[u8], reply: &mut [u8], decision: Decision) -
     ensures reply { λ _. ⌜ now (reply .exit) ≡ act (now (table .entry)) (now (message .entry)) (now (reply .entry)) (decisionSeen (drop 2 (now (message .entry))) decision) .buffer ⌝ }
     ensures table { λ _. ⌜ now (table .exit) ≡ act (now (table .entry)) (now (message .entry)) (now (reply .entry)) (decisionSeen (drop 2 (now (message .entry))) decision) .table ⌝ }
 {
-    let k = deciding::entry_of(message);
+    let k = deciding::picked_entry(message);
     let first = deciding::reply_first(message);
     let act = decision.act;
     match act {
@@ -105,17 +102,17 @@ fn act(table: &mut [u8], message: &[u8], reply: &mut [u8], decision: Decision) -
             return done(code, 0);
         }
         Act::WithCause(number) => {
-            let written = sending::write_release_cause(reply, first, number);
+            let written = sending::put_release_cause(reply, first, number);
             close(table, k);
             return done(2, written);
         }
         Act::WithReject { id, tag, number } => {
-            let written = sending::write_release_reject(reply, first, id, tag, number);
+            let written = sending::put_release_reject(reply, first, id, tag, number);
             close(table, k);
             return done(3, written);
         }
         Act::OnReject => {
-            let written = sending::write_release(reply, first);
+            let written = sending::put_release(reply, first);
             close(table, k);
             return done(4, written);
         }
@@ -134,24 +131,6 @@ fn act(table: &mut [u8], message: &[u8], reply: &mut [u8], decision: Decision) -
     }
 }
 
-// The usual menu is taken: every place of it is known.
-fn take_menu(table: &mut [u8], message: &[u8]) -> Received
-    requires { ⌜ (usualMenu (now message) ≡ true) × (size * entryOf (now message) + size ≤ length (now table)) ⌝ }
-    ensures returned { λ r. ⌜ r ≡ shownAs (length (now (message .entry))) 0 0 (menuShown (now (message .entry))) none ⌝ }
-    ensures table { λ _. ⌜ now (table .exit) ≡ withEntry (now (table .entry)) (entryOf (now (message .entry))) (menuEntry (now (message .entry))) ⌝ }
-{
-    let entry = deciding::entry_of(message);
-    let slot = menus::shown::slot_of(message);
-    table::write_entry(table, entry, slot);
-    Received {
-        code: 0,
-        written: 0,
-        shown: menus::shown::component_of(message),
-        text: menus::shown::text_of(message),
-        cause: showing::cause_view(message, Part::Nothing),
-    }
-}
-
 // A message of any length and content, in any state of the table, gets its one verdict.
 #[no_mangle]
 pub extern "C" fn smr_receive(table: &mut [u8], message: &[u8], reply: &mut [u8]) -> Received
@@ -159,9 +138,6 @@ pub extern "C" fn smr_receive(table: &mut [u8], message: &[u8], reply: &mut [u8]
     ensures reply { λ _. ⌜ now (reply .exit) ≡ receive (now (table .entry)) (now (message .entry)) (now (reply .entry)) .buffer ⌝ }
     ensures table { λ _. ⌜ now (table .exit) ≡ receive (now (table .entry)) (now (message .entry)) (now (reply .entry)) .table ⌝ }
 {
-    if menus::usual::is_menu(table, message, reply.len()) {
-        return take_menu(table, message);
-    }
     let decision = deciding::decide(table, message, reply.len());
     let acted = act(table, message, reply, decision);
     let told = decision.told;

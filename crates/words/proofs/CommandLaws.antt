@@ -7,8 +7,7 @@ use native.Mathlib.Omega.{arith}
 use borrow.Author.Tests.{eq-eqb, ne-eqb}
 use lib.IntN.{ℤ}
 use lib.ListN.{length, getD}
-use Rattle.codes.specs.Ids.{idOf, octetOf}
-use Rattle.codes.proofs.IdLaws.{IsId, id-back}
+use Rattle.codes.proofs.IdLaws.{asHeld, IsId, held-is}
 use Rattle.words.specs.Words.{wordAt, spelled}
 use Rattle.words.specs.Numbers.{number, octetAt, idAt}
 use Rattle.words.specs.Commands.{ended, beginAt, invokeAt, resultAt, errorAt, releaseAt, bufferAt, byVerb, verbOf, passedOver, command}
@@ -27,9 +26,9 @@ module _ (s : List ℕ) (at : ℕ) where
   unfolding beginAt
   begin-no-id e f = rw (e, f)
 
-  pub begin-is : {operation i j : ℕ} {id : ℤ} → IsId id → octetAt s at ≡ OctetIs operation i → idAt s i ≡ IdIs id j → beginAt s at ≡ Begin operation (idOf (octetOf id)) j
+  pub begin-is : {operation i j : ℕ} {id : ℤ} → IsId id → octetAt s at ≡ OctetIs operation i → idAt s i ≡ IdIs id j → beginAt s at ≡ Begin operation (asHeld id) j
   unfolding beginAt
-  begin-is y e f = rw (e, f, id-back y)
+  begin-is y e f = rw (e, f, held-is y)
 
   pub invoke-no-flag : octetAt s at ≡ NoOctet → invokeAt s at ≡ Unknown
   unfolding invokeAt
@@ -47,9 +46,9 @@ module _ (s : List ℕ) (at : ℕ) where
   unfolding invokeAt
   invoke-no-id e f g h = rw (e, f, g, h)
 
-  pub invoke-is : {flag value operation i j k l : ℕ} {id : ℤ} → IsId id → octetAt s at ≡ OctetIs flag i → octetAt s i ≡ OctetIs value j → octetAt s j ≡ OctetIs operation k → idAt s k ≡ IdIs id l → invokeAt s at ≡ Invoke flag value operation (idOf (octetOf id)) l
+  pub invoke-is : {flag value operation i j k l : ℕ} {id : ℤ} → IsId id → octetAt s at ≡ OctetIs flag i → octetAt s i ≡ OctetIs value j → octetAt s j ≡ OctetIs operation k → idAt s k ≡ IdIs id l → invokeAt s at ≡ Invoke flag value operation (asHeld id) l
   unfolding invokeAt
-  invoke-is y e f g h = rw (e, f, g, h, id-back y)
+  invoke-is y e f g h = rw (e, f, g, h, held-is y)
 
   pub result-no-flag : octetAt s at ≡ NoOctet → resultAt s at ≡ Unknown
   unfolding resultAt
@@ -63,9 +62,9 @@ module _ (s : List ℕ) (at : ℕ) where
   unfolding resultAt
   result-no-id e f g = rw (e, f, g)
 
-  pub result-is : {flag value i j k : ℕ} {id : ℤ} → IsId id → octetAt s at ≡ OctetIs flag i → octetAt s i ≡ OctetIs value j → idAt s j ≡ IdIs id k → resultAt s at ≡ Result flag value (idOf (octetOf id)) k
+  pub result-is : {flag value i j k : ℕ} {id : ℤ} → IsId id → octetAt s at ≡ OctetIs flag i → octetAt s i ≡ OctetIs value j → idAt s j ≡ IdIs id k → resultAt s at ≡ Result flag value (asHeld id) k
   unfolding resultAt
-  result-is y e f g = rw (e, f, g, id-back y)
+  result-is y e f g = rw (e, f, g, held-is y)
 
   pub error-no-flag : octetAt s at ≡ NoOctet → errorAt s at ≡ Unknown
   unfolding errorAt
@@ -83,9 +82,9 @@ module _ (s : List ℕ) (at : ℕ) where
   unfolding errorAt
   error-no-code e f g h = rw (e, f, g, h)
 
-  pub error-is : {flag value code i j k l : ℕ} {id : ℤ} → IsId id → octetAt s at ≡ OctetIs flag i → octetAt s i ≡ OctetIs value j → idAt s j ≡ IdIs id k → octetAt s k ≡ OctetIs code l → errorAt s at ≡ Error flag value (idOf (octetOf id)) code l
+  pub error-is : {flag value code i j k l : ℕ} {id : ℤ} → IsId id → octetAt s at ≡ OctetIs flag i → octetAt s i ≡ OctetIs value j → idAt s j ≡ IdIs id k → octetAt s k ≡ OctetIs code l → errorAt s at ≡ Error flag value (asHeld id) code l
   unfolding errorAt
-  error-is y e f g h = rw (e, f, g, h, id-back y)
+  error-is y e f g h = rw (e, f, g, h, held-is y)
 
   pub release-no-flag : octetAt s at ≡ NoOctet → releaseAt s at ≡ Unknown
   unfolding releaseAt

@@ -8,8 +8,8 @@ use lib.IntN.{ℤ}
 use lib.Dec.{eqb}
 use lib.ListN.{length}
 use Rattle.octets.specs.Reader.{isEmpty}
-use Rattle.codes.specs.Ids.{idOf, octetOf}
-use Rattle.codes.proofs.IdLaws.{held}
+use Rattle.codes.specs.Ids.{idOf}
+use Rattle.codes.proofs.IdLaws.{asHeld, held}
 use Rattle.words.specs.Words.{wordAt, spelled}
 use Rattle.words.specs.Numbers.{number, signed, octetAt, idAt}
 use Rattle.words.specs.declared.Word.{Word}
@@ -35,6 +35,6 @@ module _ (s : List ℕ) (at : ℕ) (w : Word) (q : w ≡ wordAt s at) where
   id-none e = rw (← q, e)
 
   -- as the code holds it, an i8
-  pub id-is : (n : ℕ) (z : ℤ) → n ≤ 255 → z ≡ idOf n → signed (spelled s w) ≡ Is n → idAt s at ≡ IdIs (idOf (octetOf z)) (w .end)
+  pub id-is : (n : ℕ) (z : ℤ) → n ≤ 255 → z ≡ idOf n → signed (spelled s w) ≡ Is n → idAt s at ≡ IdIs (asHeld z) (w .end)
   unfolding idAt
   id-is n z h p e = rw (← q, e, held n (omega arith) p)

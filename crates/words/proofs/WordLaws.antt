@@ -2,7 +2,7 @@
 use Prim.Native.Nat.{ℕ, suc, _+_, _<_, _≤_}
 use mathlib.Core.Path.{_≡_, refl, ap}
 use mathlib.Core.List.{List, [], _∷_}
-use mathlib.Core.Bool.{Bool, true, false, _&&_}
+use mathlib.Core.Bool.{Bool, true, false, _&&_, and-false}
 use native.Mathlib.Numerals.{add-one}
 use native.Mathlib.Omega.{arith}
 use lib.ListN.{length, getD, drop, drop-of-length-le}
@@ -40,10 +40,6 @@ pub word-is : (s : List ℕ) (at start end : ℕ) → start ≡ at + blanks (dro
     → wordAt s at ≡ record { start = start; end = end }
 unfolding wordAt wordFrom
 word-is s at start end p q = rw (q, p)
-
-and-false : (b : Bool) → b && false ≡ false
-and-false true = refl
-and-false false = refl
 
 -- lists of two lengths are not the same
 pub other-length : (s t : List ℕ) → (length s ≡ length t → ⊥) → same s t ≡ false

@@ -12,7 +12,7 @@ use Rattle.codes.specs.Ids.{octetOf}
 use Rattle.octets.proofs.SpliceLaws.{splice-splice}
 use Rattle.elements.specs.Element.{shortest, header, written}
 use Rattle.elements.proofs.ElementLaws.{shortest-length}
-use Rattle.components.specs.Written.{contents, octets, answer, enclosedLength, codedLength, answerLength, rejectLength}
+use Rattle.components.specs.Written.{contents, componentOctets, answer, enclosedLength, codedLength, answerLength, rejectLength}
 use Rattle.components.specs.Component.{invoke, error, reject}
 use mathlib.Core.Option.{Option, none, some}
 
@@ -61,13 +61,13 @@ pub fits-as : (at n : ℕ) {v w : List ℕ} → v ≡ w → at + length w ≤ n 
 fits-as at n q h = subst (λ (x : List ℕ). at + length x ≤ n) (sym q) h
 
 -- the answer to an operation, without a parameter and with one; x is the id's octet
-pub answer-bare : (id : ℤ) (x o : ℕ) (p : List ℕ) → x ≡ octetOf id → length p ≡ 0 → written 0xA2 (0x02 ∷ 0x01 ∷ x ∷ p) ≡ octets (answer id o p)
+pub answer-bare : (id : ℤ) (x o : ℕ) (p : List ℕ) → x ≡ octetOf id → length p ≡ 0 → written 0xA2 (0x02 ∷ 0x01 ∷ x ∷ p) ≡ componentOctets (answer id o p)
 unfolding contents answer
 answer-bare id x o [] e h = rw e
 answer-bare id x o (a ∷ p) e h = absurd (omega arith)
 
 pub answer-full : (id : ℤ) (x o : ℕ) (p : List ℕ) → x ≡ octetOf id → (length p ≡ 0 → ⊥)
-    → written 0xA2 ((0x02 ∷ 0x01 ∷ x ∷ []) ++ written 0x30 (0x02 ∷ 0x01 ∷ o ∷ p)) ≡ octets (answer id o p)
+    → written 0xA2 ((0x02 ∷ 0x01 ∷ x ∷ []) ++ written 0x30 (0x02 ∷ 0x01 ∷ o ∷ p)) ≡ componentOctets (answer id o p)
 unfolding contents answer
 answer-full id x o [] e h = absurd (h refl)
 answer-full id x o (a ∷ p) e h = rw e
@@ -77,15 +77,15 @@ pub inner-length : (o : ℕ) (p : List ℕ) → length p ≤ 255 → (length (wr
 inner-length o p h = (place-length 0x30 0x02 0x01 o p, omega (arith, shortest-length (3 + length p) .1))
 
 -- how long each component is
-pub invoke-octets : (id : ℤ) (o : ℕ) (p : List ℕ) → length (octets (invoke id none o p)) ≡ codedLength (length p)
+pub invoke-octets : (id : ℤ) (o : ℕ) (p : List ℕ) → length (componentOctets (invoke id none o p)) ≡ codedLength (length p)
 unfolding contents
 invoke-octets id o p = six-length 0xA1 0x02 0x01 (octetOf id) 0x02 0x01 o p
 
-pub error-octets : (id : ℤ) (o : ℕ) (p : List ℕ) → length (octets (error id o p)) ≡ codedLength (length p)
+pub error-octets : (id : ℤ) (o : ℕ) (p : List ℕ) → length (componentOctets (error id o p)) ≡ codedLength (length p)
 unfolding contents
 error-octets id o p = six-length 0xA3 0x02 0x01 (octetOf id) 0x02 0x01 o p
 
-pub answer-octets : (id : ℤ) (o : ℕ) (p : List ℕ) → length (octets (answer id o p)) ≡ answerLength (length p)
+pub answer-octets : (id : ℤ) (o : ℕ) (p : List ℕ) → length (componentOctets (answer id o p)) ≡ answerLength (length p)
 unfolding contents answer
 answer-octets id o [] = place-length 0xA2 0x02 0x01 (octetOf id) []
 answer-octets id o (a ∷ p) =
@@ -93,7 +93,7 @@ answer-octets id o (a ∷ p) =
     rw (eqb·suc-zero (length p))
     (place-length 0xA2 0x02 0x01 (octetOf id) (written 0x30 (0x02 ∷ 0x01 ∷ o ∷ a ∷ p)) ∙ ap (λ (n : ℕ). enclosedLength (3 + n)) e)
 
-pub reject-octets : (id : Option ℤ) (tag problem : ℕ) → length (octets (reject id tag problem)) ≡ rejectLength id
+pub reject-octets : (id : Option ℤ) (tag problem : ℕ) → length (componentOctets (reject id tag problem)) ≡ rejectLength id
 unfolding contents shortest
 reject-octets none tag problem = refl
 reject-octets (some id) tag problem = refl

@@ -9,7 +9,7 @@ ghost use Rattle.octets.specs.Splice.{splice};
 ghost use Rattle.elements.specs.Element.{written};
 ghost use Rattle.places.specs.Seen.{idSeen};
 ghost use Rattle.components.specs.Component.{invoke, error, reject};
-ghost use Rattle.components.specs.Written.{octets, answer, enclosedLength, codedLength, answerLength, rejectLength};
+ghost use Rattle.components.specs.Written.{componentOctets, answer, enclosedLength, codedLength, answerLength, rejectLength};
 
 // An element with so many octets of contents.
 fn enclosed_length(n: usize) -> usize
@@ -52,9 +52,9 @@ fn write_enclosed(buf: &mut [u8], at: usize, tag: u8, head: &[u8], tail: &[u8]) 
 
 // An Invoke; no linked id is written.
 pub fn write_invoke(buf: &mut [u8], at: usize, id: i8, operation: u8, p: &[u8]) -> usize
-    requires { ⌜ (length (now p) ≤ 255) × (at + length (octets (invoke id none operation (now p))) ≤ length (now buf)) ⌝ }
-    ensures writes { λ _. ⌜ now (buf .exit) ≡ splice (now (buf .entry)) at (octets (invoke id none operation (now (p .entry)))) ⌝ }
-    ensures next { λ r. ⌜ r ≡ at + length (octets (invoke id none operation (now (p .entry)))) ⌝ }
+    requires { ⌜ (length (now p) ≤ 255) × (at + length (componentOctets (invoke id none operation (now p))) ≤ length (now buf)) ⌝ }
+    ensures writes { λ _. ⌜ now (buf .exit) ≡ splice (now (buf .entry)) at (componentOctets (invoke id none operation (now (p .entry)))) ⌝ }
+    ensures next { λ r. ⌜ r ≡ at + length (componentOctets (invoke id none operation (now (p .entry)))) ⌝ }
 {
     let head = [0x02, 0x01, codes::ids::octet_of(id), 0x02, 0x01, operation];
     write_enclosed(buf, at, 0xA1, &head, p)
@@ -62,9 +62,9 @@ pub fn write_invoke(buf: &mut [u8], at: usize, id: i8, operation: u8, p: &[u8]) 
 
 // A Return error.
 pub fn write_error(buf: &mut [u8], at: usize, id: i8, code: u8, p: &[u8]) -> usize
-    requires { ⌜ (length (now p) ≤ 255) × (at + length (octets (error id code (now p))) ≤ length (now buf)) ⌝ }
-    ensures writes { λ _. ⌜ now (buf .exit) ≡ splice (now (buf .entry)) at (octets (error id code (now (p .entry)))) ⌝ }
-    ensures next { λ r. ⌜ r ≡ at + length (octets (error id code (now (p .entry)))) ⌝ }
+    requires { ⌜ (length (now p) ≤ 255) × (at + length (componentOctets (error id code (now p))) ≤ length (now buf)) ⌝ }
+    ensures writes { λ _. ⌜ now (buf .exit) ≡ splice (now (buf .entry)) at (componentOctets (error id code (now (p .entry)))) ⌝ }
+    ensures next { λ r. ⌜ r ≡ at + length (componentOctets (error id code (now (p .entry)))) ⌝ }
 {
     let head = [0x02, 0x01, codes::ids::octet_of(id), 0x02, 0x01, code];
     write_enclosed(buf, at, 0xA3, &head, p)
@@ -72,9 +72,9 @@ pub fn write_error(buf: &mut [u8], at: usize, id: i8, code: u8, p: &[u8]) -> usi
 
 // A Reject, with the id if there is one.
 pub fn write_reject(buf: &mut [u8], at: usize, id: Id, tag: u8, problem: u8) -> usize
-    requires { ⌜ at + length (octets (reject (idSeen id) tag problem)) ≤ length (now buf) ⌝ }
-    ensures writes { λ _. ⌜ now (buf .exit) ≡ splice (now (buf .entry)) at (octets (reject (idSeen id) tag problem)) ⌝ }
-    ensures next { λ r. ⌜ r ≡ at + length (octets (reject (idSeen id) tag problem)) ⌝ }
+    requires { ⌜ at + length (componentOctets (reject (idSeen id) tag problem)) ≤ length (now buf) ⌝ }
+    ensures writes { λ _. ⌜ now (buf .exit) ≡ splice (now (buf .entry)) at (componentOctets (reject (idSeen id) tag problem)) ⌝ }
+    ensures next { λ r. ⌜ r ≡ at + length (componentOctets (reject (idSeen id) tag problem)) ⌝ }
 {
     let told = [tag, 0x01, problem];
     match id {
@@ -91,9 +91,9 @@ pub fn write_reject(buf: &mut [u8], at: usize, id: Id, tag: u8, problem: u8) -> 
 
 // A Return result; without a parameter it has no 30.
 pub fn write_answer(buf: &mut [u8], at: usize, id: i8, operation: u8, p: &[u8]) -> usize
-    requires { ⌜ (length (now p) ≤ 255) × (at + length (octets (answer id operation (now p))) ≤ length (now buf)) ⌝ }
-    ensures writes { λ _. ⌜ now (buf .exit) ≡ splice (now (buf .entry)) at (octets (answer id operation (now (p .entry)))) ⌝ }
-    ensures next { λ r. ⌜ r ≡ at + length (octets (answer id operation (now (p .entry)))) ⌝ }
+    requires { ⌜ (length (now p) ≤ 255) × (at + length (componentOctets (answer id operation (now p))) ≤ length (now buf)) ⌝ }
+    ensures writes { λ _. ⌜ now (buf .exit) ≡ splice (now (buf .entry)) at (componentOctets (answer id operation (now (p .entry)))) ⌝ }
+    ensures next { λ r. ⌜ r ≡ at + length (componentOctets (answer id operation (now (p .entry)))) ⌝ }
 {
     let head = [0x02, 0x01, codes::ids::octet_of(id)];
     if p.len() == 0 {

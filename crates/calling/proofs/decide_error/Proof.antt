@@ -25,7 +25,7 @@ use Rattle.calling.proofs.length_refusal.Reads as length-refusal-reads
 use Rattle.codes.proofs.errors.is_listed.Reads as is-listed-reads
 use Rattle.judging.proofs.is_among.Reads as is-among-reads
 use Rattle.parameters.proofs.suits.is_none_or_one.Reads as is-none-or-one-reads
-use Rattle.sending.proofs.coded_length.Reads as coded-length-reads
+use Rattle.sending.proofs.facility_length.Reads as facility-length-reads
 use Rattle.table.proofs.is_valid.Reads as is-valid-reads
 use Rattle.table.proofs.read_entry.Reads as read-entry-reads
 
@@ -112,8 +112,8 @@ returns-6 c =
     let s : noneOrOne (a .p .now) ≡ true = sym (c .before .before .is-none-or-one .ensures) ∙ not-false _ (c .before .if4 .left) in
     (error-long (a .table .now) (a .room) (a .flag) (a .value) (a .id) (a .code) (a .p .now) d b k t slot seen m s (c .if5 .taken), (tt, tt))
 
-coded-length-requires : tie.Need-coded-length-requires
-coded-length-requires c κs = search needs
+facility-length-requires : tie.Need-facility-length-requires
+facility-length-requires c κs = search needs
 
 length-refusal-requires : tie.Need-length-refusal-requires
 length-refusal-requires c κs = search needs
@@ -130,7 +130,7 @@ returns-7 c =
     let m : among (a .id) (invokeSeen (slot .peer)) ≡ true = sym (among-is (invokeSeen (slot .peer)) (c .before .before .before .before .before .before .before .before .before .before .before .before .before .before .before .before .before .before .before .fits .id) (c .before .before .before .before .before .before .before .is-among .ensures)) ∙ not-false _ (c .before .before .before .before .before .before .if3 .left) in
     let s : noneOrOne (a .p .now) ≡ true = sym (c .before .before .before .before .before .is-none-or-one .ensures) ∙ not-false _ (c .before .before .before .before .if4 .left) in
     let r = c .before .length-refusal .result in
-    let e : r ≡ lengthRefusal (3 + codedLength (length (a .p .now))) (a .room) = rw (c .before .before .coded-length .ensures) at (c .before .length-refusal .ensures) in
+    let e : r ≡ lengthRefusal (3 + codedLength (length (a .p .now))) (a .room) = rw (c .before .before .facility-length .ensures) at (c .before .length-refusal .ensures) in
     (error-refused (a .table .now) (a .room) (a .flag) (a .value) (a .id) (a .code) (a .p .now) d b k t slot seen m s r e (c .if6 .taken), (tt, tt))
 
 returns-8 : tie.Need-returns-8
@@ -146,7 +146,7 @@ returns-8 c =
     let m : among (a .id) (invokeSeen (slot .peer)) ≡ true = sym (among-is (invokeSeen (slot .peer)) (c .before .before .before .before .before .before .before .before .before .before .before .before .before .before .before .before .before .before .before .fits .id) (c .before .before .before .before .before .before .before .is-among .ensures)) ∙ not-false _ (c .before .before .before .before .before .before .if3 .left) in
     let s : noneOrOne (a .p .now) ≡ true = sym (c .before .before .before .before .before .is-none-or-one .ensures) ∙ not-false _ (c .before .before .before .before .if4 .left) in
     let r = c .before .length-refusal .result in
-    let e : r ≡ lengthRefusal (3 + codedLength (length (a .p .now))) (a .room) = rw (c .before .before .coded-length .ensures) at (c .before .length-refusal .ensures) in
+    let e : r ≡ lengthRefusal (3 + codedLength (length (a .p .now))) (a .room) = rw (c .before .before .facility-length .ensures) at (c .before .length-refusal .ensures) in
     let g = error-goes (a .table .now) (a .room) (a .flag) (a .value) (a .id) (a .code) (a .p .now) d b k t slot seen m s r e (c .if6 .left) w in
     (g .0, (g .1, refl))
 
@@ -168,7 +168,7 @@ decide-error-spec =
     is-none-or-one-requires
     returns-5
     returns-6
-    coded-length-requires
+    facility-length-requires
     length-refusal-requires
     returns-7
     returns-8)

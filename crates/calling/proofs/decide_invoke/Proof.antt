@@ -24,7 +24,7 @@ use Rattle.calling.proofs.length_refusal.Reads as length-refusal-reads
 use Rattle.codes.proofs.operations.is_begun.Reads as is-begun-reads
 use Rattle.judging.proofs.is_full.Reads as is-full-reads
 use Rattle.parameters.proofs.suits.suits_invoke_written.Reads as suits-invoke-written-reads
-use Rattle.sending.proofs.coded_length.Reads as coded-length-reads
+use Rattle.sending.proofs.facility_length.Reads as facility-length-reads
 use Rattle.table.proofs.is_valid.Reads as is-valid-reads
 use Rattle.table.proofs.read_entry.Reads as read-entry-reads
 
@@ -111,8 +111,8 @@ returns-6 c =
     let s : suits InvokeWritten (a .operation) (a .p .now) ≡ true = sym (c .before .before .suits-invoke-written .ensures) ∙ not-false _ (c .before .if4 .left) in
     (invoke-long (a .table .now) (a .room) (a .flag) (a .value) (a .operation) (a .id) (a .p .now) d b k t slot seen f s (c .if5 .taken), (tt, tt))
 
-coded-length-requires : tie.Need-coded-length-requires
-coded-length-requires c κs = search needs
+facility-length-requires : tie.Need-facility-length-requires
+facility-length-requires c κs = search needs
 
 length-refusal-requires : tie.Need-length-refusal-requires
 length-refusal-requires c κs = search needs
@@ -129,7 +129,7 @@ returns-7 c =
     let f : full (invokeSeen (slot .own)) ≡ false = sym (c .before .before .before .before .before .before .before .is-full .ensures) ∙ c .before .before .before .before .before .before .if3 .left in
     let s : suits InvokeWritten (a .operation) (a .p .now) ≡ true = sym (c .before .before .before .before .before .suits-invoke-written .ensures) ∙ not-false _ (c .before .before .before .before .if4 .left) in
     let r = c .before .length-refusal .result in
-    let e : r ≡ lengthRefusal (3 + codedLength (length (a .p .now))) (a .room) = rw (c .before .before .coded-length .ensures) at (c .before .length-refusal .ensures) in
+    let e : r ≡ lengthRefusal (3 + codedLength (length (a .p .now))) (a .room) = rw (c .before .before .facility-length .ensures) at (c .before .length-refusal .ensures) in
     (invoke-refused (a .table .now) (a .room) (a .flag) (a .value) (a .operation) (a .id) (a .p .now) d b k t slot seen f s r e (c .if6 .taken), (tt, tt))
 
 returns-8 : tie.Need-returns-8
@@ -145,7 +145,7 @@ returns-8 c =
     let f : full (invokeSeen (slot .own)) ≡ false = sym (c .before .before .before .before .before .before .before .is-full .ensures) ∙ c .before .before .before .before .before .before .if3 .left in
     let s : suits InvokeWritten (a .operation) (a .p .now) ≡ true = sym (c .before .before .before .before .before .suits-invoke-written .ensures) ∙ not-false _ (c .before .before .before .before .if4 .left) in
     let r = c .before .length-refusal .result in
-    let e : r ≡ lengthRefusal (3 + codedLength (length (a .p .now))) (a .room) = rw (c .before .before .coded-length .ensures) at (c .before .length-refusal .ensures) in
+    let e : r ≡ lengthRefusal (3 + codedLength (length (a .p .now))) (a .room) = rw (c .before .before .facility-length .ensures) at (c .before .length-refusal .ensures) in
     let g = invoke-goes (a .table .now) (a .room) (a .flag) (a .value) (a .operation) (a .id) (a .p .now) d b k t slot seen f s r e (c .if6 .left) (c .before .before .before .before .before .before .before .before .before .before .before .before .before .before .before .before .before .before .before .fits .id) w in
     (g .0, (g .1, refl))
 
@@ -167,7 +167,7 @@ decide-invoke-spec =
     suits-invoke-written-requires
     returns-5
     returns-6
-    coded-length-requires
+    facility-length-requires
     length-refusal-requires
     returns-7
     returns-8)

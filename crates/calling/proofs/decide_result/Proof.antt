@@ -24,7 +24,7 @@ use Rattle.calling.proofs.length_refusal.Reads as length-refusal-reads
 use Rattle.judging.proofs.is_among.Reads as is-among-reads
 use Rattle.judging.proofs.waiting_operation.Reads as waiting-operation-reads
 use Rattle.parameters.proofs.suits.suits_result_written.Reads as suits-result-written-reads
-use Rattle.sending.proofs.answer_length.Reads as answer-length-reads
+use Rattle.sending.proofs.facility_answer_length.Reads as facility-answer-length-reads
 use Rattle.table.proofs.is_valid.Reads as is-valid-reads
 use Rattle.table.proofs.read_entry.Reads as read-entry-reads
 
@@ -104,8 +104,8 @@ returns-5 c =
     let s : suits ResultWritten o (a .p .now) ≡ true = sym (c .before .before .suits-result-written .ensures) ∙ not-false _ (c .before .if3 .left) in
     (result-long (a .table .now) (a .room) (a .flag) (a .value) (a .id) (a .p .now) d k t slot seen m o q s (c .if4 .taken), (tt, tt))
 
-answer-length-requires : tie.Need-answer-length-requires
-answer-length-requires c κs = search needs
+facility-answer-length-requires : tie.Need-facility-answer-length-requires
+facility-answer-length-requires c κs = search needs
 
 length-refusal-requires : tie.Need-length-refusal-requires
 length-refusal-requires c κs = search needs
@@ -123,7 +123,7 @@ returns-6 c =
     let q : o ≡ operationOf (a .id) (invokeSeen (slot .peer)) = operation-is (invokeSeen (slot .peer)) (c .before .before .before .before .before .before .before .before .before .before .before .before .before .before .before .before .before .before .fits .id) (c .before .before .before .before .before .before .waiting-operation .ensures) in
     let s : suits ResultWritten o (a .p .now) ≡ true = sym (c .before .before .before .before .before .suits-result-written .ensures) ∙ not-false _ (c .before .before .before .before .if3 .left) in
     let r = c .before .length-refusal .result in
-    let e : r ≡ lengthRefusal (3 + answerLength (length (a .p .now))) (a .room) = rw (c .before .before .answer-length .ensures) at (c .before .length-refusal .ensures) in
+    let e : r ≡ lengthRefusal (3 + answerLength (length (a .p .now))) (a .room) = rw (c .before .before .facility-answer-length .ensures) at (c .before .length-refusal .ensures) in
     (result-refused (a .table .now) (a .room) (a .flag) (a .value) (a .id) (a .p .now) d k t slot seen m o q s r e (c .if5 .taken), (tt, tt))
 
 returns-7 : tie.Need-returns-7
@@ -140,7 +140,7 @@ returns-7 c =
     let q : o ≡ operationOf (a .id) (invokeSeen (slot .peer)) = operation-is (invokeSeen (slot .peer)) (c .before .before .before .before .before .before .before .before .before .before .before .before .before .before .before .before .before .before .fits .id) (c .before .before .before .before .before .before .waiting-operation .ensures) in
     let s : suits ResultWritten o (a .p .now) ≡ true = sym (c .before .before .before .before .before .suits-result-written .ensures) ∙ not-false _ (c .before .before .before .before .if3 .left) in
     let r = c .before .length-refusal .result in
-    let e : r ≡ lengthRefusal (3 + answerLength (length (a .p .now))) (a .room) = rw (c .before .before .answer-length .ensures) at (c .before .length-refusal .ensures) in
+    let e : r ≡ lengthRefusal (3 + answerLength (length (a .p .now))) (a .room) = rw (c .before .before .facility-answer-length .ensures) at (c .before .length-refusal .ensures) in
     let g = result-goes (a .table .now) (a .room) (a .flag) (a .value) (a .id) (a .p .now) d k t slot seen m o q s r e (c .if5 .left) w in
     (g .0, (g .1, g .2))
 
@@ -161,7 +161,7 @@ decide-result-spec =
     suits-result-written-requires
     returns-4
     returns-5
-    answer-length-requires
+    facility-answer-length-requires
     length-refusal-requires
     returns-6
     returns-7)

@@ -3,7 +3,8 @@ use mathlib.Core.Path.{_≡_, ap, _∙_}
 use mathlib.Core.Bool.{true, false}
 use borrow.Author.Tests.{not-true, not-false}
 use Rattle.messages.specs.Scan.{firstTaken}
-use Rattle.deciding.specs.Decision.{Decision, Shows, released, shownBy}
+use Rattle.components.specs.Shows.{Shows}
+use Rattle.deciding.specs.Decision.{Decision, released, shownBy}
 use Rattle.deciding.specs.Steps.{exceptInvoke}
 use Rattle.deciding.proofs.Paths.{shown-told}
 use Rattle.deciding.proofs.decide_by_type.Statement.{statement}

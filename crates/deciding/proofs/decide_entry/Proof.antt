@@ -2,14 +2,14 @@ use borrow.Author.Needs.{needs}
 use mathlib.Core.Path.{_≡_, refl, sym, _∙_}
 use Rattle.octets.proofs.PartLaws.{rest-part}
 use Rattle.messages.specs.Layout.{value}
-use Rattle.deciding.specs.Steps.{firstOf}
+use Rattle.deciding.specs.Steps.{firstOctet}
 use Rattle.deciding.proofs.Paths.{not-silent, value-seven, picked, value-least}
 use Rattle.deciding.proofs.decide_entry.Statement.{statement}
 use Rattle.deciding.proofs.decide_entry.Tie as tie
 use Rattle.deciding.proofs.decide_entry.Reads as reads
 use Rattle.deciding.proofs.decide_entry.Lts as lts
 use Rattle.deciding.proofs.decide_by_type.Reads as decide-by-type-reads
-use Rattle.deciding.proofs.entry_of.Reads as entry-of-reads
+use Rattle.deciding.proofs.picked_entry.Reads as picked-entry-reads
 use Rattle.deciding.proofs.untold.Reads as untold-reads
 use Rattle.messages.proofs.layout.flag_of.Reads as flag-of-reads
 use Rattle.messages.proofs.layout.value_of.Reads as value-of-reads
@@ -27,10 +27,10 @@ untold-requires c κs = search needs
 returns : tie.Need-returns
 returns c =
     let a = c .before .before .before .before .before .before .args in
-    rw (c .untold .ensures) (value-seven (a .table .now) (a .message .now) (sym (c .before .before .value-of .ensures) ∙ c .before .if1 .taken), ((tt, refl), not-silent))
+    rw (c .untold .ensures) ((value-seven (a .table .now) (a .message .now) (sym (c .before .before .value-of .ensures) ∙ c .before .if1 .taken), (tt, refl)), not-silent)
 
-entry-of-requires : tie.Need-entry-of-requires
-entry-of-requires c κs = search needs
+picked-entry-requires : tie.Need-picked-entry-requires
+picked-entry-requires c κs = search needs
 
 read-entry-requires : tie.Need-read-entry-requires
 read-entry-requires c κs = search needs
@@ -57,10 +57,10 @@ returns-2 : tie.Need-returns-2
 returns-2 c =
     let a = c .before .before .before .before .before .before .before .before .before .before .before .args in
     let m = a .message .now in
-    let w : value (firstOf m) ≡ 7 → ⊥ = λ z. c .before .before .before .before .before .before .if1 .left (c .before .before .before .before .before .before .before .value-of .ensures ∙ z) in
+    let w : value (firstOctet m) ≡ 7 → ⊥ = λ z. c .before .before .before .before .before .before .if1 .left (c .before .before .before .before .before .before .before .value-of .ensures ∙ z) in
     let q = rw (rest-part 2 m) at (c .decide-by-type .ensures .0) in
     let h = rw (rest-part 2 m) at (c .decide-by-type .ensures .1) in
-    (q ∙ picked (a .table .now) m w _ _ _ (c .before .before .before .before .before .entry-of .ensures) (c .before .before .before .before .read-entry .ensures) (c .before .before .before .flag-of .ensures), (h, λ z. value-least (a .table .now) m w))
+    ((q ∙ picked (a .table .now) m w _ _ _ (c .before .before .before .before .before .picked-entry .ensures) (c .before .before .before .before .read-entry .ensures) (c .before .before .before .flag-of .ensures), h), λ z. value-least (a .table .now) m w)
 
 pub decide-entry-spec : {M : Type 1} → statement M
 decide-entry-spec =
@@ -70,7 +70,7 @@ decide-entry-spec =
     value-of-requires
     untold-requires
     returns
-    entry-of-requires
+    picked-entry-requires
     read-entry-requires
     flag-of-requires
     shared-slice-read-decide-by-type

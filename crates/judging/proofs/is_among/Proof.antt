@@ -1,6 +1,6 @@
 use borrow.Author.Needs.{needs}
 use Rattle.judging.specs.StepSix.{among}
-use Rattle.judging.proofs.Paths.{or-none}
+use Rattle.judging.proofs.Paths.{or-none, same-is}
 use Rattle.judging.proofs.is_among.Statement.{statement}
 use Rattle.judging.proofs.is_among.Tie as tie
 use Rattle.judging.proofs.is_among.Reads as reads
@@ -18,7 +18,7 @@ enum-known-waiting c = search needs
 
 returns-2 : tie.Need-returns-2
 unfolding among
-returns-2 c = rw (c .before .waiting .given .1) (or-none _)
+returns-2 c = rw (c .before .waiting .given .1, ← same-is (c .before .waiting .given .0 .0) (c .before .before .before .args .id)) (or-none _)
 
 pub is-among-spec : {M : Type 1} → statement M
 is-among-spec = tie.close (tie.spec enum-told returns enum-known-waiting returns-2)

@@ -1,7 +1,7 @@
 use borrow.Author.Needs.{needs}
 use mathlib.Core.Path.{_≡_, sym, _∙_, ap}
 use borrow.Author.Tests.{not-true, not-false}
-use Rattle.codes.proofs.IdLaws.{id-back}
+use Rattle.codes.proofs.IdLaws.{held-is}
 use Rattle.table.specs.Seen.{invokeSeen}
 use Rattle.judging.specs.StepSix.{judgeInvoke, accepted}
 use Rattle.judging.proofs.Paths.{among-is, room}
@@ -66,7 +66,7 @@ with-peer-requires c κs = search needs
 
 returns-6 : tie.Need-returns-6
 unfolding judgeInvoke
-returns-6 c = (rw (sym (among-is (invokeSeen (c .before .before .before .before .before .before .before .before .before .before .before .before .before .before .args .slot .peer)) (c .before .before .before .before .before .before .before .before .before .before .before .before .before .before .fits .id) (c .before .before .before .before .before .before .before .before .before .before .before .before .is-among .ensures)) ∙ c .before .before .before .before .before .before .before .before .before .before .before .if1 .left, sym (c .before .before .before .before .before .before .before .before .before .before .is-full .ensures) ∙ c .before .before .before .before .before .before .before .before .before .if2 .left, sym (c .before .before .before .before .before .before .before .before .is-served .ensures) ∙ not-false _ (c .before .before .before .before .before .before .before .if3 .left), sym (rw (c .before .before .before .before .enum-told .given .1) at (c .before .before .before .before .before .before .judge-linked .ensures)), sym (c .before .before .before .suits-invoke-received .ensures .0) ∙ not-false _ (c .before .if4 .left), room (c .before .before .before .before .before .before .before .before .before .before .before .before .before .before .args .slot .peer) (sym (c .before .before .before .before .before .before .before .before .before .before .is-full .ensures) ∙ c .before .before .before .before .before .before .before .before .before .if2 .left)) (ap accepted (rw (id-back (c .before .before .before .before .before .before .before .before .before .before .before .before .before .before .fits .id)) at (c .with-peer .ensures))), c .before .before .before .suits-invoke-received .ensures .1)
+returns-6 c = (rw (sym (among-is (invokeSeen (c .before .before .before .before .before .before .before .before .before .before .before .before .before .before .args .slot .peer)) (c .before .before .before .before .before .before .before .before .before .before .before .before .before .before .fits .id) (c .before .before .before .before .before .before .before .before .before .before .before .before .is-among .ensures)) ∙ c .before .before .before .before .before .before .before .before .before .before .before .if1 .left, sym (c .before .before .before .before .before .before .before .before .before .before .is-full .ensures) ∙ c .before .before .before .before .before .before .before .before .before .if2 .left, sym (c .before .before .before .before .before .before .before .before .is-served .ensures) ∙ not-false _ (c .before .before .before .before .before .before .before .if3 .left), sym (rw (c .before .before .before .before .enum-told .given .1) at (c .before .before .before .before .before .before .judge-linked .ensures)), sym (c .before .before .before .suits-invoke-received .ensures .0) ∙ not-false _ (c .before .if4 .left), room (c .before .before .before .before .before .before .before .before .before .before .before .before .before .before .args .slot .peer) (sym (c .before .before .before .before .before .before .before .before .before .before .is-full .ensures) ∙ c .before .before .before .before .before .before .before .before .before .if2 .left)) (ap accepted (rw (held-is (c .before .before .before .before .before .before .before .before .before .before .before .before .before .before .fits .id)) at (c .with-peer .ensures))), c .before .before .before .suits-invoke-received .ensures .1)
 
 pub judge-invoke-spec : {M : Type 1} → statement M
 judge-invoke-spec =

@@ -1,6 +1,7 @@
 use borrow.Author.Needs.{needs}
 use borrow.Author.Tests.{eq-eqb, ne-eqb}
-use mathlib.Core.Path.{_≡_}
+use mathlib.Core.Path.{_≡_, sym, _∙_}
+use Rattle.judging.proofs.Paths.{same-is}
 use mathlib.Core.Bool.{true, false}
 use Rattle.judging.specs.StepSix.{sameId, operationOf}
 use Rattle.judging.proofs.waiting_operation.Statement.{statement}
@@ -21,13 +22,13 @@ enum-known-waiting c = search needs
 returns-2 : tie.Need-returns-2
 unfolding operationOf
 returns-2 c =
-    let e : sameId (c .before .before .waiting .given .0 .0) (c .before .before .before .before .args .id) ≡ true = eq-eqb _ _ (c .if1 .taken) in
+    let e : sameId (c .before .before .waiting .given .0 .0) (c .before .before .before .before .args .id) ≡ true = sym (same-is (c .before .before .waiting .given .0 .0) (c .before .before .before .before .args .id)) ∙ eq-eqb _ _ (c .if1 .taken) in
     rw (c .before .before .waiting .given .1, e)
 
 returns-3 : tie.Need-returns-3
 unfolding operationOf
 returns-3 c =
-    let e : sameId (c .before .before .waiting .given .0 .0) (c .before .before .before .before .args .id) ≡ false = ne-eqb _ _ (c .if1 .left) in
+    let e : sameId (c .before .before .waiting .given .0 .0) (c .before .before .before .before .args .id) ≡ false = sym (same-is (c .before .before .waiting .given .0 .0) (c .before .before .before .before .args .id)) ∙ ne-eqb _ _ (c .if1 .left) in
     rw (c .before .before .waiting .given .1, e)
 
 pub waiting-operation-spec : {M : Type 1} → statement M

@@ -1,6 +1,6 @@
 use borrow.Author.Needs.{needs}
 use mathlib.Core.Path.{sym, _∙_}
-use Rattle.codes.proofs.IdLaws.{id-back}
+use Rattle.codes.proofs.IdLaws.{held-is}
 use Rattle.judging.proofs.with_peer.Statement.{statement}
 use Rattle.judging.proofs.with_peer.Tie as tie
 use Rattle.judging.proofs.with_peer.Reads as reads
@@ -11,7 +11,7 @@ is-waited-for-requires : tie.Need-is-waited-for-requires
 is-waited-for-requires c κs = search needs
 
 returns : tie.Need-returns
-returns c = rw (id-back (c .before .before .fits .id), sym (c .before .is-waited-for .ensures) ∙ c .if1 .taken)
+returns c = rw (held-is (c .before .before .fits .id), sym (c .before .is-waited-for .ensures) ∙ c .if1 .taken)
 
 returns-2 : tie.Need-returns-2
 returns-2 c = rw (sym (c .before .is-waited-for .ensures) ∙ c .if1 .left)

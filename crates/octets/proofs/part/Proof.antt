@@ -1,23 +1,16 @@
 use borrow.Author.Needs.{needs}
-use mathlib.Core.Path.{sym, _∙_}
-use native.Mathlib.Omega.{arith}
-use Rattle.octets.proofs.PartLaws.{none-between, past-end, to-end, rest-part}
+use Rattle.octets.proofs.PartLaws.{clamped}
 use Rattle.octets.proofs.part.Statement.{statement}
 use Rattle.octets.proofs.part.Tie as tie
 use Rattle.octets.proofs.part.Reads as reads
 use Rattle.octets.proofs.part.Lts as lts
+use Rattle.octets.proofs.least.Reads as least-reads
 
-slice-aggregate-result : tie.Need-slice-aggregate-result
-slice-aggregate-result c = search needs
+least-requires : tie.Need-least-requires
+least-requires c κs = search needs
 
-returns : tie.Need-returns
-returns c = let a = c .before .before .args in sym (none-between (a .from) (a .to) (a .s .now) (c .before .if1 .taken))
-
-slice-aggregate-result-2 : tie.Need-slice-aggregate-result-2
-slice-aggregate-result-2 c = search needs
-
-returns-2 : tie.Need-returns-2
-returns-2 c = let a = c .before .before .before .args in sym (past-end (a .from) (a .to) (a .s .now) (c .before .if2 .taken))
+least-requires-2 : tie.Need-least-requires-2
+least-requires-2 c κs = search needs
 
 sub-result : tie.Need-sub-result
 sub-result c = search needs
@@ -28,34 +21,12 @@ part-result-start c = search needs
 part-result-end : tie.Need-part-result-end
 part-result-end c = search needs
 
-returns-3 : tie.Need-returns-3
-returns-3 c = let a = c .before .before .before .before .args in rest-part (a .from) (a .s .now) ∙ sym (to-end (a .from) (a .to) (a .s .now) (omega arith))
-
-sub-result-2 : tie.Need-sub-result-2
-sub-result-2 c = search needs
-
-part-result-start-2 : tie.Need-part-result-start-2
-part-result-start-2 c = search needs
-
-part-result-end-2 : tie.Need-part-result-end-2
-part-result-end-2 c = search needs
-
-returns-4 : tie.Need-returns-4
-returns-4 c = search needs
+returns : tie.Need-returns
+returns c =
+    let a = c .before .before .before .before .args in
+    (rw (c .before .least2 .ensures, c .before .before .least .ensures) (clamped (a .from) (a .to) (a .s .now)), rw (c .before .least2 .ensures, c .before .before .least .ensures))
 
 pub part-spec : {M : Type 1} → statement M
 part-spec =
     tie.close
-    (tie.spec
-    slice-aggregate-result
-    returns
-    slice-aggregate-result-2
-    returns-2
-    sub-result
-    part-result-start
-    part-result-end
-    returns-3
-    sub-result-2
-    part-result-start-2
-    part-result-end-2
-    returns-4)
+    (tie.spec least-requires least-requires-2 sub-result part-result-start part-result-end returns)

@@ -1,6 +1,6 @@
 use borrow.Author.Needs.{needs}
 use mathlib.Core.Path.{_∙_}
-use Rattle.codes.proofs.IdLaws.{IsId, id-back}
+use Rattle.codes.proofs.IdLaws.{IsId, held-is}
 use Rattle.showing.proofs.Paths.{view-invoke, view-result, view-error, view-reject}
 use Rattle.showing.proofs.view_of.Statement.{statement}
 use Rattle.showing.proofs.view_of.Tie as tie
@@ -25,7 +25,7 @@ returns c =
     let g = c .before .before .before .shown .given in
     let h : IsId (g .0 .0) = search needs in
     let k : IsId (c .id-or-0 .result) = search needs in
-    λ s. rw (g .1) (view-invoke s (c .before .before .before .before .before .args .span) (g .0 .1 .0) (g .0 .1 .1 .0) (g .0 .1 .1 .1 .0) (id-back h) (c .before .has-id .ensures) (id-back k ∙ c .id-or-0 .ensures))
+    λ s. rw (g .1) (view-invoke s (c .before .before .before .before .before .args .span) (g .0 .1 .0) (g .0 .1 .1 .0) (g .0 .1 .1 .1 .0) (held-is h) (c .before .has-id .ensures) (held-is k ∙ c .id-or-0 .ensures))
 
 enum-known-shown-2 : tie.Need-enum-known-shown-2
 enum-known-shown-2 c = search needs
@@ -40,7 +40,7 @@ returns-2 : tie.Need-returns-2
 returns-2 c =
     let g = c .before .before .before .shown2 .given in
     let h : IsId (g .0 .0) = search needs in
-    λ s. rw (g .1) (view-result s (c .before .before .before .before .before .args .span) (g .0 .1 .0) (g .0 .1 .1 .0) (id-back h) (c .before .has-operation .ensures) (c .operation-or-0 .ensures))
+    λ s. rw (g .1) (view-result s (c .before .before .before .before .before .args .span) (g .0 .1 .0) (g .0 .1 .1 .0) (held-is h) (c .before .has-operation .ensures) (c .operation-or-0 .ensures))
 
 enum-known-shown-3 : tie.Need-enum-known-shown-3
 enum-known-shown-3 c = search needs
@@ -49,7 +49,7 @@ returns-3 : tie.Need-returns-3
 returns-3 c =
     let g = c .before .shown3 .given in
     let h : IsId (g .0 .0) = search needs in
-    λ s. rw (g .1) (view-error s (c .before .before .before .args .span) (g .0 .1 .0) (g .0 .1 .1 .0) (id-back h))
+    λ s. rw (g .1) (view-error s (c .before .before .before .args .span) (g .0 .1 .0) (g .0 .1 .1 .0) (held-is h))
 
 enum-known-shown-4 : tie.Need-enum-known-shown-4
 enum-known-shown-4 c = search needs
@@ -64,7 +64,7 @@ returns-4 : tie.Need-returns-4
 returns-4 c =
     let g = c .before .before .before .shown4 .given in
     let k : IsId (c .id-or-02 .result) = search needs in
-    λ s. rw (g .1) (view-reject s (c .before .before .before .before .before .args .span) (g .0 .0) (g .0 .1 .0) (g .0 .1 .1 .0) (c .before .has-id2 .ensures) (id-back k ∙ c .id-or-02 .ensures))
+    λ s. rw (g .1) (view-reject s (c .before .before .before .before .before .args .span) (g .0 .0) (g .0 .1 .0) (g .0 .1 .1 .0) (c .before .has-id2 .ensures) (held-is k ∙ c .id-or-02 .ensures))
 
 pub view-of-spec : {M : Type 1} → statement M
 view-of-spec =

@@ -1,17 +1,15 @@
 use borrow.Author.Needs.{needs}
 use native.Mathlib.Omega.{arith}
 use native.Mathlib.Numerals.{add-one}
-use mathlib.Core.Bool.{true}
-use mathlib.Core.Path.{_≡_, refl, sym, _∙_}
+use mathlib.Core.Path.{_≡_, refl, _∙_}
 use Prim.Native.Nat.{_+_, _*_, _≤_, _-_}
 use lib.ListN.{length}
 use Rattle.table.specs.Table.{soundEntries}
-use Rattle.table.proofs.Steps.{other-length, new-is, two-more, all-seen}
+use Rattle.table.proofs.Steps.{other-length, two-more, all-seen}
 use Rattle.table.proofs.is_valid.Statement.{statement}
 use Rattle.table.proofs.is_valid.Tie as tie
 use Rattle.table.proofs.is_valid.Reads as reads
 use Rattle.table.proofs.is_valid.Lts as lts
-use Rattle.table.proofs.is_new.Reads as is-new-reads
 use Rattle.table.proofs.is_sound.Reads as is-sound-reads
 
 abbrev Inv-loop : tie.InvT-loop
@@ -20,14 +18,8 @@ Inv-loop table sound₀ pair₀ sound pair = (pair ≤ 7) × (sound ≡ soundEnt
 abbrev μ-loop : tie.MeasureT-loop
 μ-loop table sound₀ pair₀ sound pair = 7 - pair
 
-is-new-requires : tie.Need-is-new-requires Inv-loop μ-loop
-is-new-requires c κs = search needs
-
 returns : tie.Need-returns Inv-loop μ-loop
-returns c = new-is (c .before .before .before .args .table .now) (sym (c .before .is-new .ensures) ∙ c .if1 .taken)
-
-returns-2 : tie.Need-returns-2 Inv-loop μ-loop
-returns-2 c = other-length (c .before .before .before .before .args .table .now) (c .if2 .taken)
+returns c = other-length (c .before .before .args .table .now) (c .if1 .taken)
 
 loop-holds : tie.Need-loop-holds Inv-loop μ-loop
 unfolding soundEntries
@@ -56,13 +48,13 @@ loop-less c = search needs
 
 loop-again : tie.Need-loop-again Inv-loop μ-loop
 loop-again c =
-    let t = c .before .before .before .before .before .before .before .before .args .table .now in
+    let t = c .before .before .before .before .before .before .args .table .now in
     (omega arith, rw (two-more t (c .before .before .before .loop .pair), c .is-sound2 .ensures, c .before .is-sound .ensures, c .before .before .before .loop .inv .1))
 
-returns-3 : tie.Need-returns-3 Inv-loop μ-loop
-returns-3 c =
-    let t = c .before .before .before .before .before .before .args .table .now in
-    let long : length t ≡ 70 = c .before .before .if2 .left in
+returns-2 : tie.Need-returns-2 Inv-loop μ-loop
+returns-2 c =
+    let t = c .before .before .before .before .args .table .now in
+    let long : length t ≡ 70 = c .before .before .if1 .left in
     let v = c .before .loop .inv in
     v .1 ∙ all-seen t (2 * (c .before .loop .pair)) long (omega arith) (omega (arith, c .loop-test .left))
 
@@ -72,9 +64,7 @@ is-valid-spec =
     (tie.spec
     Inv-loop
     μ-loop
-    is-new-requires
     returns
-    returns-2
     loop-holds
     mul-is-sound
     is-sound-requires
@@ -84,4 +74,4 @@ is-valid-spec =
     add-pair
     loop-less
     loop-again
-    returns-3)
+    returns-2)

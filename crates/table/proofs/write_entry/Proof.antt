@@ -1,6 +1,6 @@
 use borrow.Author.Needs.{needs}
 use mathlib.Core.Path.{_∙_}
-use Rattle.table.specs.Table.{withEntry, octets}
+use Rattle.table.specs.Table.{withEntry, entryOctets}
 use Rattle.table.proofs.write_entry.Statement.{statement}
 use Rattle.table.proofs.write_entry.Tie as tie
 use Rattle.table.proofs.write_entry.Reads as reads
@@ -39,7 +39,7 @@ same-length : tie.Need-same-length
 same-length c = search needs
 
 returns : tie.Need-returns
-unfolding withEntry octets
+unfolding withEntry entryOctets
 returns c = c .before .before .put .ensures ∙ rw (c .before .before .before .before .start-of .ensures, c .before .before .before .before .before .before .before .before .before .before .state-of .ensures, c .before .before .before .before .before .before .before .before .before .id-in .ensures, c .before .before .before .before .before .before .before .before .operation-in .ensures, c .before .before .before .before .before .before .before .id-in2 .ensures, c .before .before .before .before .before .before .operation-in2 .ensures)
 
 pub write-entry-spec : {M : Type 1} → statement M

@@ -1,7 +1,7 @@
 use borrow.Author.Needs.{needs}
 use mathlib.Core.Path.{ap, _∙_}
 use Rattle.answers.proofs.CallLaws.{receive-made, begin-made, invoke-made, result-made, error-made, release-made, none-made, table-made, buffer-made, makes-call, makes-receive, makes-none}
-use Rattle.codes.specs.Ids.{idOf, octetOf}
+use Rattle.codes.proofs.IdLaws.{asHeld}
 use Rattle.words.specs.declared.Command.{Command}
 use Rattle.telephone.specs.Receive.{receive}
 use Rattle.telephone.specs.Calls.{begin, invokeWithin, result, error, release}
@@ -67,7 +67,7 @@ returns-2 c =
     let a = c .before .before .before .before .before .before .before .before .before .before .before .before .before .before .before .before .before .before .before .args in
     let g = c .before .before .before .before .before .before .before .before .before .before .before .before .before .command .given in
     let k = c .before .before .before .before .before .before .before .before .before .before .before .before .known-told .given in
-    let o = begin (a .table .now) (a .buffer .now) (g .0 .0) (idOf (octetOf (g .0 .1 .0))) (a .octets .now) in
+    let o = begin (a .table .now) (a .buffer .now) (g .0 .0) (asHeld (g .0 .1 .0)) (a .octets .now) in
     let e = ap (λ (x : Command). made (a .table .now) (a .buffer .now) (a .octets .now) x) (g .1) ∙ begin-made (a .table .now) (a .buffer .now) (a .octets .now) _ (g .0 .1 .0) _ (record { sfits = k .1 .0 .1 }) in
     makes-call _ _ _ _ _ _ o _ _ e (c .before .before .before .before .before .before .before .before .before .smr-begin .ensures) (c .before .before .called-text .ensures)
 
@@ -94,7 +94,7 @@ returns-3 c =
     let a = c .before .before .before .before .before .before .before .before .before .before .before .before .before .before .before .before .before .before .before .args in
     let g = c .before .before .before .before .before .before .before .before .before .before .before .before .before .command2 .given in
     let k = c .before .before .before .before .before .before .before .before .before .before .before .before .known-told2 .given in
-    let o = invokeWithin (a .table .now) (a .buffer .now) (g .0 .0) (g .0 .1 .0) (g .0 .1 .1 .0) (idOf (octetOf (g .0 .1 .1 .1 .0))) (a .octets .now) in
+    let o = invokeWithin (a .table .now) (a .buffer .now) (g .0 .0) (g .0 .1 .0) (g .0 .1 .1 .0) (asHeld (g .0 .1 .1 .1 .0)) (a .octets .now) in
     let e = ap (λ (x : Command). made (a .table .now) (a .buffer .now) (a .octets .now) x) (g .1) ∙ invoke-made (a .table .now) (a .buffer .now) (a .octets .now) _ _ _ (g .0 .1 .1 .1 .0) _ (record { sfits = k .1 .1 .1 .0 .1 }) in
     makes-call _ _ _ _ _ _ o _ _ e (c .before .before .before .before .before .before .before .before .before .smr-invoke .ensures) (c .before .before .called-text2 .ensures)
 
@@ -121,7 +121,7 @@ returns-4 c =
     let a = c .before .before .before .before .before .before .before .before .before .before .before .before .before .before .before .before .before .before .before .args in
     let g = c .before .before .before .before .before .before .before .before .before .before .before .before .before .command3 .given in
     let k = c .before .before .before .before .before .before .before .before .before .before .before .before .known-told3 .given in
-    let o = result (a .table .now) (a .buffer .now) (g .0 .0) (g .0 .1 .0) (idOf (octetOf (g .0 .1 .1 .0))) (a .octets .now) in
+    let o = result (a .table .now) (a .buffer .now) (g .0 .0) (g .0 .1 .0) (asHeld (g .0 .1 .1 .0)) (a .octets .now) in
     let e = ap (λ (x : Command). made (a .table .now) (a .buffer .now) (a .octets .now) x) (g .1) ∙ result-made (a .table .now) (a .buffer .now) (a .octets .now) _ _ (g .0 .1 .1 .0) _ (record { sfits = k .1 .1 .0 .1 }) in
     makes-call _ _ _ _ _ _ o _ _ e (c .before .before .before .before .before .before .before .before .before .smr-result .ensures) (c .before .before .called-text3 .ensures)
 
@@ -148,7 +148,7 @@ returns-5 c =
     let a = c .before .before .before .before .before .before .before .before .before .before .before .before .before .before .before .before .before .before .before .args in
     let g = c .before .before .before .before .before .before .before .before .before .before .before .before .before .command4 .given in
     let k = c .before .before .before .before .before .before .before .before .before .before .before .before .known-told4 .given in
-    let o = error (a .table .now) (a .buffer .now) (g .0 .0) (g .0 .1 .0) (idOf (octetOf (g .0 .1 .1 .0))) (g .0 .1 .1 .1 .0) (a .octets .now) in
+    let o = error (a .table .now) (a .buffer .now) (g .0 .0) (g .0 .1 .0) (asHeld (g .0 .1 .1 .0)) (g .0 .1 .1 .1 .0) (a .octets .now) in
     let e = ap (λ (x : Command). made (a .table .now) (a .buffer .now) (a .octets .now) x) (g .1) ∙ error-made (a .table .now) (a .buffer .now) (a .octets .now) _ _ (g .0 .1 .1 .0) _ _ (record { sfits = k .1 .1 .0 .1 }) in
     makes-call _ _ _ _ _ _ o _ _ e (c .before .before .before .before .before .before .before .before .before .smr-error .ensures) (c .before .before .called-text4 .ensures)
 

@@ -1,5 +1,5 @@
 use borrow.Author.Needs.{needs}
-use mathlib.Core.Path.{_≡_, ap}
+use mathlib.Core.Path.{_≡_, sym, ap, _∙_}
 use Prim.Native.Nat.{_-_, _<_, _≤_}
 use native.Mathlib.Omega.{arith}
 use lib.IntN.{pos, natAbs}
@@ -7,6 +7,7 @@ use mir.Syntax.{w8}
 use mir.Val.{toZ, ofZ}
 use mir.Facts.{toZ-pos, fits-ofZ}
 use Rattle.codes.proofs.Halves.{high, low}
+use Rattle.codes.proofs.IdLaws.{octet-is}
 use Rattle.codes.proofs.ids.octet_of.Statement.{statement}
 use Rattle.codes.proofs.ids.octet_of.Tie as tie
 use Rattle.codes.proofs.ids.octet_of.Reads as reads
@@ -29,10 +30,10 @@ cast-result-2 : tie.Need-cast-result-2
 cast-result-2 c = rw (same c) (tt, record { fits = omega (arith, low (c .before .fits .id) (c .if1 .left)) })
 
 returns : tie.Need-returns
-returns c = rw (turned c) (let b = fits-ofZ (c .before .fits .id) in omega (arith, b .fits))
+returns c = rw (turned c, octet-is (c .before .args .id)) (let b = fits-ofZ (c .before .fits .id) in omega (arith, b .fits))
 
 returns-2 : tie.Need-returns-2
-returns-2 c = ap natAbs (same c)
+returns-2 c = ap natAbs (same c) ∙ sym (octet-is (c .before .args .id))
 
 pub octet-of-spec : {M : Type 1} → statement M
 octet-of-spec = tie.close (tie.spec cast-result sub-result cast-result-2 returns returns-2)

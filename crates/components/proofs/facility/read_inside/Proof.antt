@@ -51,11 +51,14 @@ returns-3 c =
     let z = rw (c .before .enum-told2 .given .1) at (c .before .before .before .read-single .ensures .0) in
     (rw (c .fault-of .ensures, c .before .enum-told2 .given .1) (inside-none (c .before .before .before .before .before .before .args .s .now) _ (c .before .before .before .before .if1 .left) _ z), tt)
 
+id-of-requires : tie.Need-id-of-requires
+id-of-requires c κs = search needs
+
 sub-read-after-id : tie.Need-sub-read-after-id
-sub-read-after-id c = omega (arith, rw (c .before .single .given .1) at (c .before .before .before .read-single .ensures .1))
+sub-read-after-id c = omega (arith, rw (c .before .before .single .given .1) at (c .before .before .before .before .read-single .ensures .1))
 
 part-read-after-id-start : tie.Need-part-read-after-id-start
-part-read-after-id-start c = omega (arith, rw (c .before .single .given .1) at (c .before .before .before .read-single .ensures .1))
+part-read-after-id-start c = omega (arith, rw (c .before .before .single .given .1) at (c .before .before .before .before .read-single .ensures .1))
 
 part-read-after-id-end : tie.Need-part-read-after-id-end
 part-read-after-id-end c = search needs
@@ -72,27 +75,26 @@ enum-told-3 c = search needs
 kind-fault-requires : tie.Need-kind-fault-requires
 kind-fault-requires c κs = search needs
 
-id-of-requires : tie.Need-id-of-requires
-id-of-requires c κs = search needs
-
 returns-4 : tie.Need-returns-4
 returns-4 c =
     let s = c .before .before .before .before .before .before .before .before .before .before .before .before .args .s .now in
     let j = c .before .before .before .before .before .before .before .single .given in
+    let i = held (j .0 .0) (search needs) (c .before .before .before .before .before .id-of .ensures) in
     let q = rw (j .1) at (c .before .before .before .before .before .before .before .before .before .read-single .ensures .0) in
-    let z = rw (c .before .before .enum-told3 .given .1, rest-part (j .0 .1 .0) s) at (c .before .before .before .before .read-after-id .ensures .0) in
-    (rw (c .before .kind-fault .ensures, c .before .before .enum-told3 .given .1) (inside-fault s _ (c .before .before .before .before .before .before .before .before .before .before .if1 .left) (j .0 .0) (j .0 .1 .0) q _ _ (held (j .0 .0) (search needs) (c .id-of .ensures)) z), tt)
+    let z = rw (c .before .enum-told3 .given .1, rest-part (j .0 .1 .0) s, i) at (c .before .before .before .read-after-id .ensures .0) in
+    (rw (c .kind-fault .ensures, c .before .enum-told3 .given .1) (inside-fault s _ (c .before .before .before .before .before .before .before .before .before .before .if1 .left) (j .0 .0) (j .0 .1 .0) q _ _ i z), tt)
 
 returns-5 : tie.Need-returns-5
 returns-5 c =
-    let s = c .before .before .before .before .before .before .before .before .before .before .before .args .s .now in
-    let j = c .before .before .before .before .before .before .single .given in
+    let s = c .before .before .before .before .before .before .before .before .before .before .before .before .args .s .now in
+    let j = c .before .before .before .before .before .before .before .single .given in
     let k = c .before .kind .given in
-    let q = rw (j .1) at (c .before .before .before .before .before .before .before .before .read-single .ensures .0) in
-    let l = rw (j .1) at (c .before .before .before .before .before .before .before .before .read-single .ensures .1) in
-    let z = rw (k .1, rest-part (j .0 .1 .0) s) at (c .before .before .before .read-after-id .ensures .0) in
+    let i = held (j .0 .0) (search needs) (c .before .before .before .before .before .id-of .ensures) in
+    let q = rw (j .1) at (c .before .before .before .before .before .before .before .before .before .read-single .ensures .0) in
+    let l = rw (j .1) at (c .before .before .before .before .before .before .before .before .before .read-single .ensures .1) in
+    let z = rw (k .1, rest-part (j .0 .1 .0) s, i) at (c .before .before .before .read-after-id .ensures .0) in
     let w = rw (k .1, rest-part (j .0 .1 .0) s) at (c .before .before .before .read-after-id .ensures .1) in
-    (ap shows (sym (shown-end (k .0 .0) s (j .0 .1 .0) l w)) ∙ inside-shows s _ (c .before .before .before .before .before .before .before .before .before .if1 .left) (j .0 .0) (j .0 .1 .0) q _ z, omega (arith, length-drop (j .0 .1 .0) s))
+    (ap shows (sym (shown-end (k .0 .0) s (j .0 .1 .0) l w)) ∙ inside-shows s _ (c .before .before .before .before .before .before .before .before .before .before .if1 .left) (j .0 .0) (j .0 .1 .0) q _ z, omega (arith, length-drop (j .0 .1 .0) s))
 
 pub read-inside-spec : {M : Type 1} → statement M
 read-inside-spec =
@@ -108,6 +110,7 @@ read-inside-spec =
     enum-told-2
     fault-of-requires
     returns-3
+    id-of-requires
     sub-read-after-id
     part-read-after-id-start
     part-read-after-id-end
@@ -115,6 +118,5 @@ read-inside-spec =
     enum-known-kind
     enum-told-3
     kind-fault-requires
-    id-of-requires
     returns-4
     returns-5)

@@ -1,11 +1,10 @@
 use borrow.Author.Needs.{needs}
-use Rattle.codes.proofs.IdLaws.{held}
+use Rattle.codes.proofs.IdLaws.{held-is}
 use Rattle.components.proofs.Paths.{error-none, error-is}
 use Rattle.components.proofs.kinds.read_error.Statement.{statement}
 use Rattle.components.proofs.kinds.read_error.Tie as tie
 use Rattle.components.proofs.kinds.read_error.Reads as reads
 use Rattle.components.proofs.kinds.read_error.Lts as lts
-use Rattle.codes.proofs.ids.id_of.Reads as id-of-reads
 use Rattle.places.proofs.code_fault.Reads as code-fault-reads
 use Rattle.places.proofs.read_coded.Reads as read-coded-reads
 
@@ -26,15 +25,12 @@ returns c =
     let z = rw (c .before .enum-told .given .1) at (c .before .before .before .read-coded .ensures .0) in
     (rw (c .code-fault .ensures, c .before .enum-told .given .1) (error-none (c .before .before .before .before .before .args .s .now) _ _ z), tt)
 
-id-of-requires : tie.Need-id-of-requires
-id-of-requires c κs = search needs
-
 returns-2 : tie.Need-returns-2
 returns-2 c =
-    let j = c .before .before .code .given in
-    let q = rw (j .1) at (c .before .before .before .before .read-coded .ensures .0) in
-    let w = rw (j .1) at (c .before .before .before .before .read-coded .ensures .1) in
-    (error-is (c .before .before .before .before .before .before .args .s .now) _ _ _ _ (held (c .before .before .before .before .before .before .args .id) (c .before .before .before .before .before .before .fits .id .fits) (c .id-of .ensures)) q, w)
+    let j = c .before .code .given in
+    let q = rw (j .1) at (c .before .before .before .read-coded .ensures .0) in
+    let w = rw (j .1) at (c .before .before .before .read-coded .ensures .1) in
+    (error-is (c .before .before .before .before .before .args .s .now) _ _ _ _ (held-is (c .before .before .before .before .before .fits .id)) q, w)
 
 pub read-error-spec : {M : Type 1} → statement M
 read-error-spec =
@@ -45,5 +41,4 @@ read-error-spec =
     enum-told
     code-fault-requires
     returns
-    id-of-requires
     returns-2)

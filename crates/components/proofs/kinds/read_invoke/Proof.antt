@@ -1,13 +1,12 @@
 use borrow.Author.Needs.{needs}
 use native.Mathlib.Omega.{arith}
 use Rattle.octets.proofs.PartLaws.{rest-part}
-use Rattle.codes.proofs.IdLaws.{held}
+use Rattle.codes.proofs.IdLaws.{held-is}
 use Rattle.components.proofs.Paths.{invoke-none, invoke-fault, invoke-is}
 use Rattle.components.proofs.kinds.read_invoke.Statement.{statement}
 use Rattle.components.proofs.kinds.read_invoke.Tie as tie
 use Rattle.components.proofs.kinds.read_invoke.Reads as reads
 use Rattle.components.proofs.kinds.read_invoke.Lts as lts
-use Rattle.codes.proofs.ids.id_of.Reads as id-of-reads
 use Rattle.places.proofs.calls_fault.Reads as calls-fault-reads
 use Rattle.places.proofs.last_fault.Reads as last-fault-reads
 use Rattle.places.proofs.read_calls.Reads as read-calls-reads
@@ -59,20 +58,17 @@ returns-2 c =
     let z = rw (c .before .enum-told3 .given .1, rest-part (j .0 .1 .1 .0) s) at (c .before .before .before .read-last .ensures) in
     (rw (c .last-fault .ensures, c .before .enum-told3 .given .1) (invoke-fault s _ (j .0 .1 .1 .0) q _ _ z), tt)
 
-id-of-requires : tie.Need-id-of-requires
-id-of-requires c κs = search needs
-
-sub-t15 : tie.Need-sub-t15
-sub-t15 c = omega (arith, rw (c .before .before .before .before .before .before .calls .given .1) at (c .before .before .before .before .before .before .before .before .read-calls .ensures .1))
+sub-t14 : tie.Need-sub-t14
+sub-t14 c = omega (arith, rw (c .before .before .before .before .before .calls .given .1) at (c .before .before .before .before .before .before .before .read-calls .ensures .1))
 
 returns-3 : tie.Need-returns-3
 returns-3 c =
-    let s = c .before .before .before .before .before .before .before .before .before .before .args .s .now in
-    let j = c .before .before .before .before .before .before .calls .given in
-    let q = rw (j .1) at (c .before .before .before .before .before .before .before .before .read-calls .ensures .0) in
-    let w = rw (j .1) at (c .before .before .before .before .before .before .before .before .read-calls .ensures .1) in
-    let z = rw (c .before .enum-told2 .given .1, rest-part (j .0 .1 .1 .0) s) at (c .before .before .before .read-last .ensures) in
-    (invoke-is s _ (j .0 .1 .1 .0) q _ _ (held (c .before .before .before .before .before .before .before .before .before .before .args .id) (c .before .before .before .before .before .before .before .before .before .before .fits .id .fits) (c .id-of .ensures)) w z, omega arith)
+    let s = c .before .before .before .before .before .before .before .before .before .args .s .now in
+    let j = c .before .before .before .before .before .calls .given in
+    let q = rw (j .1) at (c .before .before .before .before .before .before .before .read-calls .ensures .0) in
+    let w = rw (j .1) at (c .before .before .before .before .before .before .before .read-calls .ensures .1) in
+    let z = rw (c .enum-told2 .given .1, rest-part (j .0 .1 .1 .0) s) at (c .before .before .read-last .ensures) in
+    (invoke-is s _ (j .0 .1 .1 .0) q _ _ (held-is (c .before .before .before .before .before .before .before .before .before .fits .id)) w z, omega arith)
 
 pub read-invoke-spec : {M : Type 1} → statement M
 read-invoke-spec =
@@ -91,6 +87,5 @@ read-invoke-spec =
     enum-told-3
     last-fault-requires
     returns-2
-    id-of-requires
-    sub-t15
+    sub-t14
     returns-3)

@@ -1,7 +1,7 @@
 use borrow.Author.Needs.{needs}
 use native.Mathlib.Omega.{arith}
 use Rattle.places.proofs.Left.{problem-is, something-left}
-use Rattle.codes.proofs.IdLaws.{held}
+use Rattle.codes.proofs.IdLaws.{held-is}
 use Rattle.components.proofs.Paths.{result-bare, result-none, result-tag, result-fault, result-behind, result-is}
 use Prim.Native.Nat.{_≤_}
 use lib.ListN.{length}
@@ -11,17 +11,13 @@ use Rattle.components.proofs.kinds.read_result.Statement.{statement}
 use Rattle.components.proofs.kinds.read_result.Tie as tie
 use Rattle.components.proofs.kinds.read_result.Reads as reads
 use Rattle.components.proofs.kinds.read_result.Lts as lts
-use Rattle.codes.proofs.ids.id_of.Reads as id-of-reads
 use Rattle.places.proofs.code_fault.Reads as code-fault-reads
 use Rattle.places.proofs.problem_of.Reads as problem-of-reads
 use Rattle.places.proofs.read_coded.Reads as read-coded-reads
 use Rattle.elements.proofs.read_element.Reads as read-element-reads
 
-id-of-requires : tie.Need-id-of-requires
-id-of-requires c κs = search needs
-
 returns : tie.Need-returns
-returns c = (result-bare (c .before .before .before .args .s .now) _ _ 0 (held (c .before .before .before .args .id) (c .before .before .before .fits .id .fits) (c .id-of .ensures)) (c .before .if1 .taken), omega arith)
+returns c = (result-bare (c .before .before .args .s .now) _ _ 0 (held-is (c .before .before .fits .id)) (c .if1 .taken), omega arith)
 
 read-element-requires : tie.Need-read-element-requires
 read-element-requires c κs = search needs
@@ -99,25 +95,21 @@ returns-5 c =
     let z = rw (c .before .before .code .given .1) at (c .before .before .before .before .read-coded .ensures .0) in
     (result-behind s (g .0 .0) (g .0 .1 .0) (g .0 .1 .1 .0) (w .1 .1 .0) (w .1 .1 .1) q _ (something-left s (c .before .before .before .before .before .before .before .before .before .before .before .if1 .left)) (c .before .before .before .before .before .before .if2 .left) _ _ z (c .if3 .taken), tt)
 
-id-of-requires-2 : tie.Need-id-of-requires-2
-id-of-requires-2 c κs = search needs
-
 returns-6 : tie.Need-returns-6
 returns-6 c =
-    let s = c .before .before .before .before .before .before .before .before .before .before .before .before .before .before .args .s .now in
-    let g = c .before .before .before .before .before .before .before .before .before .found .given in
-    let q = rw (g .1) at (c .before .before .before .before .before .before .before .before .before .before .before .read-element .ensures .0) in
-    let w = rw (g .1) at (c .before .before .before .before .before .before .before .before .before .before .before .read-element .ensures .1) in
-    let j = c .before .before .before .code .given in
-    let z = rw (j .1) at (c .before .before .before .before .before .read-coded .ensures .0) in
-    let v = rw (j .1) at (c .before .before .before .before .before .read-coded .ensures .1) in
-    (result-is s (g .0 .0) (g .0 .1 .0) (g .0 .1 .1 .0) (w .1 .1 .0) (w .1 .1 .1) q _ (something-left s (c .before .before .before .before .before .before .before .before .before .before .before .before .if1 .left)) (c .before .before .before .before .before .before .before .if2 .left) _ _ z _ (held (c .before .before .before .before .before .before .before .before .before .before .before .before .before .before .args .id) (c .before .before .before .before .before .before .before .before .before .before .before .before .before .before .fits .id .fits) (c .id-of2 .ensures)) v (c .before .if3 .left), omega (arith, length-between (g .0 .1 .0) (g .0 .1 .1 .0) s (w .1 .1 .1)))
+    let s = c .before .before .before .before .before .before .before .before .before .before .before .before .before .args .s .now in
+    let g = c .before .before .before .before .before .before .before .before .found .given in
+    let q = rw (g .1) at (c .before .before .before .before .before .before .before .before .before .before .read-element .ensures .0) in
+    let w = rw (g .1) at (c .before .before .before .before .before .before .before .before .before .before .read-element .ensures .1) in
+    let j = c .before .before .code .given in
+    let z = rw (j .1) at (c .before .before .before .before .read-coded .ensures .0) in
+    let v = rw (j .1) at (c .before .before .before .before .read-coded .ensures .1) in
+    (result-is s (g .0 .0) (g .0 .1 .0) (g .0 .1 .1 .0) (w .1 .1 .0) (w .1 .1 .1) q _ (something-left s (c .before .before .before .before .before .before .before .before .before .before .before .if1 .left)) (c .before .before .before .before .before .before .if2 .left) _ _ z _ (held-is (c .before .before .before .before .before .before .before .before .before .before .before .before .before .fits .id)) v (c .if3 .left), omega (arith, length-between (g .0 .1 .0) (g .0 .1 .1 .0) s (w .1 .1 .1)))
 
 pub read-result-spec : {M : Type 1} → statement M
 read-result-spec =
     tie.close
     (tie.spec
-    id-of-requires
     returns
     read-element-requires
     enum-known-found
@@ -133,5 +125,4 @@ read-result-spec =
     code-fault-requires
     returns-4
     returns-5
-    id-of-requires-2
     returns-6)

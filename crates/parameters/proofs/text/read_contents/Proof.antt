@@ -5,8 +5,8 @@ use mathlib.Core.Path.{sym, _∙_}
 use lib.ListN.{drop, length-drop}
 use borrow.Author.Tests.{not-true, not-false}
 use Rattle.octets.proofs.PartLaws.{rest-part}
-use Rattle.parameters.specs.Seen.{OctetsWithin}
-use Rattle.parameters.specs.declared.text.Octets.the-variants.{Between}
+use Rattle.parameters.specs.Seen.{StringWithin}
+use Rattle.octets.specs.declared.MaybePart.the-variants.{Between}
 use Rattle.parameters.proofs.Paths.{no-scheme, no-string, bad-tail, says}
 use Rattle.parameters.proofs.text.read_contents.Statement.{statement}
 use Rattle.parameters.proofs.text.read_contents.Tie as tie
@@ -16,11 +16,11 @@ use Rattle.elements.proofs.is_row.Reads as is-row-reads
 use Rattle.parameters.proofs.text.read_string.Reads as read-string-reads
 
 -- the scheme lies within the part
-scheme-within : (c : tie.After-known-told) → OctetsWithin (c .before .before .before .before .before .args .s .now) 1 (Between (c .before .a .given .0 .0) (c .before .a .given .0 .1 .0))
+scheme-within : (c : tie.After-known-told) → StringWithin 1 (c .before .before .before .before .before .args .s .now) (Between (c .before .a .given .0 .0) (c .before .a .given .0 .1 .0))
 scheme-within c = rw (c .before .a .given .1) at (c .before .before .before .read-string .ensures .1)
 
 -- and the string within what is left behind it
-string-within : (c : tie.After-known-told2) → OctetsWithin (drop (c .before .before .before .before .before .before .a .given .0 .1 .0) (c .before .before .before .before .before .before .before .before .before .before .args .s .now)) 1 (Between (c .before .b .given .0 .0) (c .before .b .given .0 .1 .0))
+string-within : (c : tie.After-known-told2) → StringWithin 1 (drop (c .before .before .before .before .before .before .a .given .0 .1 .0) (c .before .before .before .before .before .before .before .before .before .before .args .s .now)) (Between (c .before .b .given .0 .0) (c .before .b .given .0 .1 .0))
 string-within c = rw (c .before .b .given .1, rest-part (c .before .before .before .before .before .before .a .given .0 .1 .0) (c .before .before .before .before .before .before .before .before .before .before .args .s .now)) at (c .before .before .before .read-string2 .ensures .1)
 
 read-string-requires : tie.Need-read-string-requires

@@ -1,7 +1,7 @@
 use borrow.Author.Needs.{needs}
 use native.Mathlib.Omega.{arith}
 use borrow.Author.Tests.{not-true, not-false}
-use Rattle.codes.proofs.IdLaws.{id-back}
+use Rattle.codes.proofs.IdLaws.{held-is}
 use Rattle.printing.specs.Numbers.{idText}
 use Rattle.printing.specs.Lines.{idLine}
 use Rattle.printing.proofs.JoinLaws.{nothing, spaced}
@@ -43,7 +43,7 @@ returns-2 : tie.Need-returns-2
 unfolding idLine
 returns-2 c =
     let a = c .before .before .before .before .before .before .before .before .before .before .before .before .before .before .before .before .before .before .before .before .before .args in
-    let t = rw (id-back (c .before .before .before .before .before .before .before .before .before .before .before .before .before .before .before .before .before .before .before .before .before .fits .id)) at (c .before .before .before .before .before .before .before .put-id .ensures) in
+    let t = rw (held-is (c .before .before .before .before .before .before .before .before .before .before .before .before .before .before .before .before .before .before .before .before .before .fits .id)) at (c .before .before .before .before .before .before .before .put-id .ensures) in
     let j = spaced (a .page .now) (a .at) (a .word .now) (idText (a .id)) _ _ _ _ _ _ _ _ (omega arith) (c .before .before .before .before .before .before .before .before .before .before .before .before .before .before .before .before .put-words .ensures) (c .before .before .before .before .before .before .before .before .before .before .before .put-words2 .ensures) (t .0, t .1 .0) (c .before .before .put-words3 .ensures) in
     rw (not-false (a .there) (c .before .before .before .before .before .before .before .before .before .before .before .before .before .before .before .before .before .before .if1 .left)) (j .0, (j .1, omega arith))
 

@@ -7,9 +7,9 @@ use native.Mathlib.Omega.{arith}
 use lib.ListN.{length}
 use Rattle.octets.specs.Reader.{fault, sound}
 use Rattle.octets.specs.Splice.{splice}
-use Rattle.codes.proofs.IdLaws.{id-back}
+use Rattle.codes.proofs.IdLaws.{held-is}
 use Rattle.components.specs.Component as component
-use Rattle.components.specs.Written.{octets, answer}
+use Rattle.components.specs.Written.{componentOctets, answer}
 use Rattle.messages.specs.Layout as layout
 use Rattle.table.specs.Seen.{slotSeen}
 use Rattle.calling.specs.Calls.{Sending}
@@ -22,7 +22,7 @@ use Rattle.telephone.proofs.calls.smr_begin.Reads as reads
 use Rattle.telephone.proofs.calls.smr_begin.Lts as lts
 use Rattle.calling.proofs.decide_begin.Reads as decide-begin-reads
 use Rattle.messages.proofs.layout.sent_first.Reads as sent-first-reads
-use Rattle.sending.proofs.write_register.Reads as write-register-reads
+use Rattle.sending.proofs.put_register.Reads as put-register-reads
 use Rattle.table.proofs.write_entry.Reads as write-entry-reads
 
 decide-begin-requires : tie.Need-decide-begin-requires
@@ -38,8 +38,8 @@ returns : tie.Need-returns
 unfolding begin
 returns c =
     let g = c .before .code .given in
-    let e : fault (g .0 .0) ≡ calls.begin (c .before .before .before .before .before .before .before .before .args .table .now) (length (c .before .before .before .before .before .before .before .before .args .buffer .now)) (c .before .before .before .before .before .before .before .before .args .operation) (c .before .before .before .before .before .before .before .before .args .id) (c .before .before .before .before .before .before .before .before .args .parameter .now) = (rw (id-back (c .before .before .before .before .before .before .before .before .fits .id)) at (rw (g .1) at (c .before .before .before .decide-begin .ensures .0))) in
-    refused-as (c .before .before .before .before .before .before .before .before .args .table .now) (c .before .before .before .before .before .before .before .before .args .buffer .now) (λ s. s .entry) (calls.begin (c .before .before .before .before .before .before .before .before .args .table .now) (length (c .before .before .before .before .before .before .before .before .args .buffer .now)) (c .before .before .before .before .before .before .before .before .args .operation) (c .before .before .before .before .before .before .before .before .args .id) (c .before .before .before .before .before .before .before .before .args .parameter .now)) (g .0 .0) e
+    let e : fault (g .0 .0) ≡ calls.sendBegin (c .before .before .before .before .before .before .before .before .args .table .now) (length (c .before .before .before .before .before .before .before .before .args .buffer .now)) (c .before .before .before .before .before .before .before .before .args .operation) (c .before .before .before .before .before .before .before .before .args .id) (c .before .before .before .before .before .before .before .before .args .parameter .now) = (rw (held-is (c .before .before .before .before .before .before .before .before .fits .id)) at (rw (g .1) at (c .before .before .before .decide-begin .ensures .0))) in
+    refused-as (c .before .before .before .before .before .before .before .before .args .table .now) (c .before .before .before .before .before .before .before .before .args .buffer .now) (λ s. s .entry) (calls.sendBegin (c .before .before .before .before .before .before .before .before .args .table .now) (length (c .before .before .before .before .before .before .before .before .args .buffer .now)) (c .before .before .before .before .before .before .before .before .args .operation) (c .before .before .before .before .before .before .before .before .args .id) (c .before .before .before .before .before .before .before .before .args .parameter .now)) (g .0 .0) e
 
 enum-known-entry : tie.Need-enum-known-entry
 enum-known-entry c = search needs
@@ -51,8 +51,8 @@ sent-first-requires c κs =
     let k = begin-value _ _ _ _ _ _ e in
     (omega arith, omega arith)
 
-write-register-requires : tie.Need-write-register-requires
-write-register-requires c κs =
+put-register-requires : tie.Need-put-register-requires
+put-register-requires c κs =
     let w = rw (c .before .before .before .entry .given .1) at (c .before .before .before .before .before .decide-begin .ensures .1 .0) in
     register-room _ _ _ _ _ (w .1 .1 .1 .0) (w .1 .1 .1 .1)
 
@@ -69,12 +69,12 @@ returns-2 : tie.Need-returns-2
 unfolding begin
 returns-2 c =
     let g = c .before .before .before .before .before .before .before .before .before .before .entry .given in
-    let m : List ℕ = layout.register (layout.sentFirst 1 (g .0 .0)) (octets (component.invoke (c .before .before .before .before .before .before .before .before .before .before .before .before .before .before .before .before .before .args .id) none (c .before .before .before .before .before .before .before .before .before .before .before .before .before .before .before .before .before .args .operation) (c .before .before .before .before .before .before .before .before .before .before .before .before .before .before .before .before .before .args .parameter .now))) in
+    let m : List ℕ = layout.register (layout.sentFirst 1 (g .0 .0)) (componentOctets (component.invoke (c .before .before .before .before .before .before .before .before .before .before .before .before .before .before .before .before .before .args .id) none (c .before .before .before .before .before .before .before .before .before .before .before .before .before .before .before .before .before .args .operation) (c .before .before .before .before .before .before .before .before .before .before .before .before .before .before .before .before .before .args .parameter .now))) in
     let s : Sending = record { entry = g .0 .0; becomes = slotSeen (g .0 .1 .0); message = m } in
-    let e : sound s ≡ calls.begin (c .before .before .before .before .before .before .before .before .before .before .before .before .before .before .before .before .before .args .table .now) (length (c .before .before .before .before .before .before .before .before .before .before .before .before .before .before .before .before .before .args .buffer .now)) (c .before .before .before .before .before .before .before .before .before .before .before .before .before .before .before .before .before .args .operation) (c .before .before .before .before .before .before .before .before .before .before .before .before .before .before .before .before .before .args .id) (c .before .before .before .before .before .before .before .before .before .before .before .before .before .before .before .before .before .args .parameter .now) = (rw (id-back (c .before .before .before .before .before .before .before .before .before .before .before .before .before .before .before .before .before .fits .id)) at (rw (g .1) at (c .before .before .before .before .before .before .before .before .before .before .before .before .decide-begin .ensures .0))) in
-    let f : c .before .before .before .before .before .before .write-register .last .0 ≡ splice (c .before .before .before .before .before .before .before .before .before .before .before .before .before .before .before .before .before .args .buffer .now) 0 m = rw (id-back (c .before .before .before .before .before .before .before .before .before .before .before .before .before .before .before .before .before .fits .id), c .before .before .before .before .before .before .before .before .sent-first .ensures) at (c .before .before .before .before .before .before .write-register .ensures .0) in
-    let l : c .before .before .before .before .before .before .write-register .result ≡ length m = rw (id-back (c .before .before .before .before .before .before .before .before .before .before .before .before .before .before .before .before .before .fits .id), c .before .before .before .before .before .before .before .before .sent-first .ensures) at (c .before .before .before .before .before .before .write-register .ensures .1) in
-    sent-as (c .before .before .before .before .before .before .before .before .before .before .before .before .before .before .before .before .before .args .table .now) (c .before .before .before .before .before .before .before .before .before .before .before .before .before .before .before .before .before .args .buffer .now) (λ s. s .entry) (calls.begin (c .before .before .before .before .before .before .before .before .before .before .before .before .before .before .before .before .before .args .table .now) (length (c .before .before .before .before .before .before .before .before .before .before .before .before .before .before .before .before .before .args .buffer .now)) (c .before .before .before .before .before .before .before .before .before .before .before .before .before .before .before .before .before .args .operation) (c .before .before .before .before .before .before .before .before .before .before .before .before .before .before .before .before .before .args .id) (c .before .before .before .before .before .before .before .before .before .before .before .before .before .before .before .before .before .args .parameter .now)) s (g .0 .0) _ _ _ e refl l f (c .before .before .write-entry .ensures)
+    let e : sound s ≡ calls.sendBegin (c .before .before .before .before .before .before .before .before .before .before .before .before .before .before .before .before .before .args .table .now) (length (c .before .before .before .before .before .before .before .before .before .before .before .before .before .before .before .before .before .args .buffer .now)) (c .before .before .before .before .before .before .before .before .before .before .before .before .before .before .before .before .before .args .operation) (c .before .before .before .before .before .before .before .before .before .before .before .before .before .before .before .before .before .args .id) (c .before .before .before .before .before .before .before .before .before .before .before .before .before .before .before .before .before .args .parameter .now) = (rw (held-is (c .before .before .before .before .before .before .before .before .before .before .before .before .before .before .before .before .before .fits .id)) at (rw (g .1) at (c .before .before .before .before .before .before .before .before .before .before .before .before .decide-begin .ensures .0))) in
+    let f : c .before .before .before .before .before .before .put-register .last .0 ≡ splice (c .before .before .before .before .before .before .before .before .before .before .before .before .before .before .before .before .before .args .buffer .now) 0 m = rw (held-is (c .before .before .before .before .before .before .before .before .before .before .before .before .before .before .before .before .before .fits .id), c .before .before .before .before .before .before .before .before .sent-first .ensures) at (c .before .before .before .before .before .before .put-register .ensures .0) in
+    let l : c .before .before .before .before .before .before .put-register .result ≡ length m = rw (held-is (c .before .before .before .before .before .before .before .before .before .before .before .before .before .before .before .before .before .fits .id), c .before .before .before .before .before .before .before .before .sent-first .ensures) at (c .before .before .before .before .before .before .put-register .ensures .1) in
+    sent-as (c .before .before .before .before .before .before .before .before .before .before .before .before .before .before .before .before .before .args .table .now) (c .before .before .before .before .before .before .before .before .before .before .before .before .before .before .before .before .before .args .buffer .now) (λ s. s .entry) (calls.sendBegin (c .before .before .before .before .before .before .before .before .before .before .before .before .before .before .before .before .before .args .table .now) (length (c .before .before .before .before .before .before .before .before .before .before .before .before .before .before .before .before .before .args .buffer .now)) (c .before .before .before .before .before .before .before .before .before .before .before .before .before .before .before .before .before .args .operation) (c .before .before .before .before .before .before .before .before .before .before .before .before .before .before .before .before .before .args .id) (c .before .before .before .before .before .before .before .before .before .before .before .before .before .before .before .before .before .args .parameter .now)) s (g .0 .0) _ _ _ e refl l f (c .before .before .write-entry .ensures)
 
 pub smr-begin-spec : {M : Type 1} → statement M
 smr-begin-spec =
@@ -86,7 +86,7 @@ smr-begin-spec =
     returns
     enum-known-entry
     sent-first-requires
-    write-register-requires
+    put-register-requires
     write-entry-requires
     same-length-2
     same-length-3

@@ -7,9 +7,9 @@ use native.Mathlib.Omega.{arith}
 use lib.ListN.{length}
 use Rattle.octets.specs.Reader.{fault, sound}
 use Rattle.octets.specs.Splice.{splice}
-use Rattle.codes.proofs.IdLaws.{id-back}
+use Rattle.codes.proofs.IdLaws.{held-is}
 use Rattle.components.specs.Component as component
-use Rattle.components.specs.Written.{octets, answer}
+use Rattle.components.specs.Written.{componentOctets, answer}
 use Rattle.messages.specs.Layout as layout
 use Rattle.table.specs.Seen.{slotSeen}
 use Rattle.calling.specs.Calls.{Sending}
@@ -22,7 +22,7 @@ use Rattle.telephone.proofs.calls.smr_error.Reads as reads
 use Rattle.telephone.proofs.calls.smr_error.Lts as lts
 use Rattle.calling.proofs.decide_error.Reads as decide-error-reads
 use Rattle.messages.proofs.layout.sent_first.Reads as sent-first-reads
-use Rattle.sending.proofs.write_error.Reads as write-error-reads
+use Rattle.sending.proofs.put_error.Reads as put-error-reads
 use Rattle.table.proofs.write_entry.Reads as write-entry-reads
 
 decide-error-requires : tie.Need-decide-error-requires
@@ -38,7 +38,7 @@ returns : tie.Need-returns
 unfolding error
 returns c =
     let g = c .before .number .given in
-    let e : fault (g .0 .0) ≡ calls.sendError (c .before .before .before .before .before .before .before .before .args .table .now) (length (c .before .before .before .before .before .before .before .before .args .buffer .now)) (c .before .before .before .before .before .before .before .before .args .flag) (c .before .before .before .before .before .before .before .before .args .value) (c .before .before .before .before .before .before .before .before .args .id) (c .before .before .before .before .before .before .before .before .args .code) (c .before .before .before .before .before .before .before .before .args .parameter .now) = (rw (id-back (c .before .before .before .before .before .before .before .before .fits .id)) at (rw (g .1) at (c .before .before .before .decide-error .ensures .0))) in
+    let e : fault (g .0 .0) ≡ calls.sendError (c .before .before .before .before .before .before .before .before .args .table .now) (length (c .before .before .before .before .before .before .before .before .args .buffer .now)) (c .before .before .before .before .before .before .before .before .args .flag) (c .before .before .before .before .before .before .before .before .args .value) (c .before .before .before .before .before .before .before .before .args .id) (c .before .before .before .before .before .before .before .before .args .code) (c .before .before .before .before .before .before .before .before .args .parameter .now) = (rw (held-is (c .before .before .before .before .before .before .before .before .fits .id)) at (rw (g .1) at (c .before .before .before .decide-error .ensures .0))) in
     refused-as (c .before .before .before .before .before .before .before .before .args .table .now) (c .before .before .before .before .before .before .before .before .args .buffer .now) noValue (calls.sendError (c .before .before .before .before .before .before .before .before .args .table .now) (length (c .before .before .before .before .before .before .before .before .args .buffer .now)) (c .before .before .before .before .before .before .before .before .args .flag) (c .before .before .before .before .before .before .before .before .args .value) (c .before .before .before .before .before .before .before .before .args .id) (c .before .before .before .before .before .before .before .before .args .code) (c .before .before .before .before .before .before .before .before .args .parameter .now)) (g .0 .0) e
 
 enum-known-entry : tie.Need-enum-known-entry
@@ -47,8 +47,8 @@ enum-known-entry c = search needs
 sent-first-requires : tie.Need-sent-first-requires
 sent-first-requires c κs = let w = rw (c .before .entry .given .1) at (c .before .before .before .decide-error .ensures .1 .0) in (w .1 .0, omega arith)
 
-write-error-requires : tie.Need-write-error-requires
-write-error-requires c κs =
+put-error-requires : tie.Need-put-error-requires
+put-error-requires c κs =
     let w = rw (c .before .before .before .entry .given .1) at (c .before .before .before .before .before .decide-error .ensures .1 .0) in
     error-room _ _ _ _ _ (w .1 .1 .1 .0) (w .1 .1 .1 .1)
 
@@ -65,11 +65,11 @@ returns-2 : tie.Need-returns-2
 unfolding error
 returns-2 c =
     let g = c .before .before .before .before .before .before .before .before .before .before .entry .given in
-    let m : List ℕ = layout.facilityMessage (layout.sentFirst (c .before .before .before .before .before .before .before .before .before .before .before .before .before .before .before .before .before .args .flag) (c .before .before .before .before .before .before .before .before .before .before .before .before .before .before .before .before .before .args .value)) (octets (component.error (c .before .before .before .before .before .before .before .before .before .before .before .before .before .before .before .before .before .args .id) (c .before .before .before .before .before .before .before .before .before .before .before .before .before .before .before .before .before .args .code) (c .before .before .before .before .before .before .before .before .before .before .before .before .before .before .before .before .before .args .parameter .now))) in
+    let m : List ℕ = layout.facilityMessage (layout.sentFirst (c .before .before .before .before .before .before .before .before .before .before .before .before .before .before .before .before .before .args .flag) (c .before .before .before .before .before .before .before .before .before .before .before .before .before .before .before .before .before .args .value)) (componentOctets (component.error (c .before .before .before .before .before .before .before .before .before .before .before .before .before .before .before .before .before .args .id) (c .before .before .before .before .before .before .before .before .before .before .before .before .before .before .before .before .before .args .code) (c .before .before .before .before .before .before .before .before .before .before .before .before .before .before .before .before .before .args .parameter .now))) in
     let s : Sending = record { entry = g .0 .0; becomes = slotSeen (g .0 .1 .0); message = m } in
-    let e : sound s ≡ calls.sendError (c .before .before .before .before .before .before .before .before .before .before .before .before .before .before .before .before .before .args .table .now) (length (c .before .before .before .before .before .before .before .before .before .before .before .before .before .before .before .before .before .args .buffer .now)) (c .before .before .before .before .before .before .before .before .before .before .before .before .before .before .before .before .before .args .flag) (c .before .before .before .before .before .before .before .before .before .before .before .before .before .before .before .before .before .args .value) (c .before .before .before .before .before .before .before .before .before .before .before .before .before .before .before .before .before .args .id) (c .before .before .before .before .before .before .before .before .before .before .before .before .before .before .before .before .before .args .code) (c .before .before .before .before .before .before .before .before .before .before .before .before .before .before .before .before .before .args .parameter .now) = (rw (id-back (c .before .before .before .before .before .before .before .before .before .before .before .before .before .before .before .before .before .fits .id)) at (rw (g .1) at (c .before .before .before .before .before .before .before .before .before .before .before .before .decide-error .ensures .0))) in
-    let f : c .before .before .before .before .before .before .write-error .last .0 ≡ splice (c .before .before .before .before .before .before .before .before .before .before .before .before .before .before .before .before .before .args .buffer .now) 0 m = rw (id-back (c .before .before .before .before .before .before .before .before .before .before .before .before .before .before .before .before .before .fits .id), c .before .before .before .before .before .before .before .before .sent-first .ensures) at (c .before .before .before .before .before .before .write-error .ensures .0) in
-    let l : c .before .before .before .before .before .before .write-error .result ≡ length m = rw (id-back (c .before .before .before .before .before .before .before .before .before .before .before .before .before .before .before .before .before .fits .id), c .before .before .before .before .before .before .before .before .sent-first .ensures) at (c .before .before .before .before .before .before .write-error .ensures .1) in
+    let e : sound s ≡ calls.sendError (c .before .before .before .before .before .before .before .before .before .before .before .before .before .before .before .before .before .args .table .now) (length (c .before .before .before .before .before .before .before .before .before .before .before .before .before .before .before .before .before .args .buffer .now)) (c .before .before .before .before .before .before .before .before .before .before .before .before .before .before .before .before .before .args .flag) (c .before .before .before .before .before .before .before .before .before .before .before .before .before .before .before .before .before .args .value) (c .before .before .before .before .before .before .before .before .before .before .before .before .before .before .before .before .before .args .id) (c .before .before .before .before .before .before .before .before .before .before .before .before .before .before .before .before .before .args .code) (c .before .before .before .before .before .before .before .before .before .before .before .before .before .before .before .before .before .args .parameter .now) = (rw (held-is (c .before .before .before .before .before .before .before .before .before .before .before .before .before .before .before .before .before .fits .id)) at (rw (g .1) at (c .before .before .before .before .before .before .before .before .before .before .before .before .decide-error .ensures .0))) in
+    let f : c .before .before .before .before .before .before .put-error .last .0 ≡ splice (c .before .before .before .before .before .before .before .before .before .before .before .before .before .before .before .before .before .args .buffer .now) 0 m = rw (held-is (c .before .before .before .before .before .before .before .before .before .before .before .before .before .before .before .before .before .fits .id), c .before .before .before .before .before .before .before .before .sent-first .ensures) at (c .before .before .before .before .before .before .put-error .ensures .0) in
+    let l : c .before .before .before .before .before .before .put-error .result ≡ length m = rw (held-is (c .before .before .before .before .before .before .before .before .before .before .before .before .before .before .before .before .before .fits .id), c .before .before .before .before .before .before .before .before .sent-first .ensures) at (c .before .before .before .before .before .before .put-error .ensures .1) in
     sent-as (c .before .before .before .before .before .before .before .before .before .before .before .before .before .before .before .before .before .args .table .now) (c .before .before .before .before .before .before .before .before .before .before .before .before .before .before .before .before .before .args .buffer .now) noValue (calls.sendError (c .before .before .before .before .before .before .before .before .before .before .before .before .before .before .before .before .before .args .table .now) (length (c .before .before .before .before .before .before .before .before .before .before .before .before .before .before .before .before .before .args .buffer .now)) (c .before .before .before .before .before .before .before .before .before .before .before .before .before .before .before .before .before .args .flag) (c .before .before .before .before .before .before .before .before .before .before .before .before .before .before .before .before .before .args .value) (c .before .before .before .before .before .before .before .before .before .before .before .before .before .before .before .before .before .args .id) (c .before .before .before .before .before .before .before .before .before .before .before .before .before .before .before .before .before .args .code) (c .before .before .before .before .before .before .before .before .before .before .before .before .before .before .before .before .before .args .parameter .now)) s 0 _ _ _ e refl l f (c .before .before .write-entry .ensures)
 
 pub smr-error-spec : {M : Type 1} → statement M
@@ -82,7 +82,7 @@ smr-error-spec =
     returns
     enum-known-entry
     sent-first-requires
-    write-error-requires
+    put-error-requires
     write-entry-requires
     same-length-2
     same-length-3

@@ -7,9 +7,9 @@ use native.Mathlib.Omega.{arith}
 use lib.ListN.{length}
 use Rattle.octets.specs.Reader.{fault, sound}
 use Rattle.octets.specs.Splice.{splice}
-use Rattle.codes.proofs.IdLaws.{id-back}
+use Rattle.codes.proofs.IdLaws.{held-is}
 use Rattle.components.specs.Component as component
-use Rattle.components.specs.Written.{octets, answer}
+use Rattle.components.specs.Written.{componentOctets, answer}
 use Rattle.messages.specs.Layout as layout
 use Rattle.table.specs.Seen.{slotSeen}
 use Rattle.calling.specs.Calls.{Sending}
@@ -22,7 +22,7 @@ use Rattle.telephone.proofs.calls.smr_release.Reads as reads
 use Rattle.telephone.proofs.calls.smr_release.Lts as lts
 use Rattle.calling.proofs.decide_release.Reads as decide-release-reads
 use Rattle.messages.proofs.layout.sent_first.Reads as sent-first-reads
-use Rattle.sending.proofs.write_release.Reads as write-release-reads
+use Rattle.sending.proofs.put_release.Reads as put-release-reads
 use Rattle.table.proofs.write_entry.Reads as write-entry-reads
 
 decide-release-requires : tie.Need-decide-release-requires
@@ -47,8 +47,8 @@ enum-known-entry c = search needs
 sent-first-requires : tie.Need-sent-first-requires
 sent-first-requires c κs = let w = rw (c .before .entry .given .1) at (c .before .before .before .decide-release .ensures .1 .0) in (w .1 .0, omega arith)
 
-write-release-requires : tie.Need-write-release-requires
-write-release-requires c κs = let w = rw (c .before .before .before .entry .given .1) at (c .before .before .before .before .before .decide-release .ensures .1 .0) in w .1 .1 .1 .1
+put-release-requires : tie.Need-put-release-requires
+put-release-requires c κs = let w = rw (c .before .before .before .entry .given .1) at (c .before .before .before .before .before .decide-release .ensures .1 .0) in w .1 .1 .1 .1
 
 write-entry-requires : tie.Need-write-entry-requires
 write-entry-requires c κs = let w = rw (c .before .before .before .before .before .before .before .entry .given .1) at (c .before .before .before .before .before .before .before .before .before .decide-release .ensures .1 .0) in w .0
@@ -66,8 +66,8 @@ returns-2 c =
     let m : List ℕ = layout.release (layout.sentFirst (c .before .before .before .before .before .before .before .before .before .before .before .before .before .before .before .before .args .flag) (c .before .before .before .before .before .before .before .before .before .before .before .before .before .before .before .before .args .value)) in
     let s : Sending = record { entry = g .0 .0; becomes = slotSeen (g .0 .1 .0); message = m } in
     let e : sound s ≡ calls.sendRelease (c .before .before .before .before .before .before .before .before .before .before .before .before .before .before .before .before .args .table .now) (length (c .before .before .before .before .before .before .before .before .before .before .before .before .before .before .before .before .args .buffer .now)) (c .before .before .before .before .before .before .before .before .before .before .before .before .before .before .before .before .args .flag) (c .before .before .before .before .before .before .before .before .before .before .before .before .before .before .before .before .args .value) = ((rw (g .1) at (c .before .before .before .before .before .before .before .before .before .before .before .before .decide-release .ensures .0))) in
-    let f : c .before .before .before .before .before .before .write-release .last .0 ≡ splice (c .before .before .before .before .before .before .before .before .before .before .before .before .before .before .before .before .args .buffer .now) 0 m = c .before .before .before .before .before .before .write-release .ensures .0 ∙ ap (λ (first : ℕ). splice (c .before .before .before .before .before .before .before .before .before .before .before .before .before .before .before .before .args .buffer .now) 0 (layout.release first)) (c .before .before .before .before .before .before .before .before .sent-first .ensures) in
-    let l : c .before .before .before .before .before .before .write-release .result ≡ length m = c .before .before .before .before .before .before .write-release .ensures .1 in
+    let f : c .before .before .before .before .before .before .put-release .last .0 ≡ splice (c .before .before .before .before .before .before .before .before .before .before .before .before .before .before .before .before .args .buffer .now) 0 m = c .before .before .before .before .before .before .put-release .ensures .0 ∙ ap (λ (first : ℕ). splice (c .before .before .before .before .before .before .before .before .before .before .before .before .before .before .before .before .args .buffer .now) 0 (layout.release first)) (c .before .before .before .before .before .before .before .before .sent-first .ensures) in
+    let l : c .before .before .before .before .before .before .put-release .result ≡ length m = c .before .before .before .before .before .before .put-release .ensures .1 in
     sent-as (c .before .before .before .before .before .before .before .before .before .before .before .before .before .before .before .before .args .table .now) (c .before .before .before .before .before .before .before .before .before .before .before .before .before .before .before .before .args .buffer .now) noValue (calls.sendRelease (c .before .before .before .before .before .before .before .before .before .before .before .before .before .before .before .before .args .table .now) (length (c .before .before .before .before .before .before .before .before .before .before .before .before .before .before .before .before .args .buffer .now)) (c .before .before .before .before .before .before .before .before .before .before .before .before .before .before .before .before .args .flag) (c .before .before .before .before .before .before .before .before .before .before .before .before .before .before .before .before .args .value)) s 0 _ _ _ e refl l f (c .before .before .write-entry .ensures)
 
 pub smr-release-spec : {M : Type 1} → statement M
@@ -80,7 +80,7 @@ smr-release-spec =
     returns
     enum-known-entry
     sent-first-requires
-    write-release-requires
+    put-release-requires
     write-entry-requires
     same-length-2
     same-length-3

@@ -7,9 +7,9 @@ use native.Mathlib.Omega.{arith}
 use lib.ListN.{length}
 use Rattle.octets.specs.Reader.{fault, sound}
 use Rattle.octets.specs.Splice.{splice}
-use Rattle.codes.proofs.IdLaws.{id-back}
+use Rattle.codes.proofs.IdLaws.{held-is}
 use Rattle.components.specs.Component as component
-use Rattle.components.specs.Written.{octets, answer}
+use Rattle.components.specs.Written.{componentOctets, answer}
 use Rattle.messages.specs.Layout as layout
 use Rattle.table.specs.Seen.{slotSeen}
 use Rattle.calling.specs.Calls.{Sending}
@@ -22,7 +22,7 @@ use Rattle.telephone.proofs.calls.smr_result.Reads as reads
 use Rattle.telephone.proofs.calls.smr_result.Lts as lts
 use Rattle.calling.proofs.decide_result.Reads as decide-result-reads
 use Rattle.messages.proofs.layout.sent_first.Reads as sent-first-reads
-use Rattle.sending.proofs.write_answer.Reads as write-answer-reads
+use Rattle.sending.proofs.put_answer.Reads as put-answer-reads
 use Rattle.table.proofs.write_entry.Reads as write-entry-reads
 
 decide-result-requires : tie.Need-decide-result-requires
@@ -38,7 +38,7 @@ returns : tie.Need-returns
 unfolding result
 returns c =
     let g = c .before .code .given in
-    let e : fault (g .0 .0) ≡ calls.sendResult (c .before .before .before .before .before .before .before .before .args .table .now) (length (c .before .before .before .before .before .before .before .before .args .buffer .now)) (c .before .before .before .before .before .before .before .before .args .flag) (c .before .before .before .before .before .before .before .before .args .value) (c .before .before .before .before .before .before .before .before .args .id) (c .before .before .before .before .before .before .before .before .args .parameter .now) = (rw (id-back (c .before .before .before .before .before .before .before .before .fits .id)) at (rw (g .1) at (c .before .before .before .decide-result .ensures .0))) in
+    let e : fault (g .0 .0) ≡ calls.sendResult (c .before .before .before .before .before .before .before .before .args .table .now) (length (c .before .before .before .before .before .before .before .before .args .buffer .now)) (c .before .before .before .before .before .before .before .before .args .flag) (c .before .before .before .before .before .before .before .before .args .value) (c .before .before .before .before .before .before .before .before .args .id) (c .before .before .before .before .before .before .before .before .args .parameter .now) = (rw (held-is (c .before .before .before .before .before .before .before .before .fits .id)) at (rw (g .1) at (c .before .before .before .decide-result .ensures .0))) in
     refused-as (c .before .before .before .before .before .before .before .before .args .table .now) (c .before .before .before .before .before .before .before .before .args .buffer .now) noValue (calls.sendResult (c .before .before .before .before .before .before .before .before .args .table .now) (length (c .before .before .before .before .before .before .before .before .args .buffer .now)) (c .before .before .before .before .before .before .before .before .args .flag) (c .before .before .before .before .before .before .before .before .args .value) (c .before .before .before .before .before .before .before .before .args .id) (c .before .before .before .before .before .before .before .before .args .parameter .now)) (g .0 .0) e
 
 enum-known-entry : tie.Need-enum-known-entry
@@ -47,8 +47,8 @@ enum-known-entry c = search needs
 sent-first-requires : tie.Need-sent-first-requires
 sent-first-requires c κs = let w = rw (c .before .entry .given .1) at (c .before .before .before .decide-result .ensures .1 .0) in (w .1 .0, omega arith)
 
-write-answer-requires : tie.Need-write-answer-requires
-write-answer-requires c κs =
+put-answer-requires : tie.Need-put-answer-requires
+put-answer-requires c κs =
     let w = rw (c .before .before .before .entry .given .1) at (c .before .before .before .before .before .decide-result .ensures .1 .0) in
     answer-room _ _ _ _ _ (w .1 .1 .1 .0) (w .1 .1 .1 .1)
 
@@ -65,11 +65,11 @@ returns-2 : tie.Need-returns-2
 unfolding result
 returns-2 c =
     let g = c .before .before .before .before .before .before .before .before .before .before .entry .given in
-    let m : List ℕ = layout.facilityMessage (layout.sentFirst (c .before .before .before .before .before .before .before .before .before .before .before .before .before .before .before .before .before .args .flag) (c .before .before .before .before .before .before .before .before .before .before .before .before .before .before .before .before .before .args .value)) (octets (answer (c .before .before .before .before .before .before .before .before .before .before .before .before .before .before .before .before .before .args .id) (g .0 .1 .1 .0) (c .before .before .before .before .before .before .before .before .before .before .before .before .before .before .before .before .before .args .parameter .now))) in
+    let m : List ℕ = layout.facilityMessage (layout.sentFirst (c .before .before .before .before .before .before .before .before .before .before .before .before .before .before .before .before .before .args .flag) (c .before .before .before .before .before .before .before .before .before .before .before .before .before .before .before .before .before .args .value)) (componentOctets (answer (c .before .before .before .before .before .before .before .before .before .before .before .before .before .before .before .before .before .args .id) (g .0 .1 .1 .0) (c .before .before .before .before .before .before .before .before .before .before .before .before .before .before .before .before .before .args .parameter .now))) in
     let s : Sending = record { entry = g .0 .0; becomes = slotSeen (g .0 .1 .0); message = m } in
-    let e : sound s ≡ calls.sendResult (c .before .before .before .before .before .before .before .before .before .before .before .before .before .before .before .before .before .args .table .now) (length (c .before .before .before .before .before .before .before .before .before .before .before .before .before .before .before .before .before .args .buffer .now)) (c .before .before .before .before .before .before .before .before .before .before .before .before .before .before .before .before .before .args .flag) (c .before .before .before .before .before .before .before .before .before .before .before .before .before .before .before .before .before .args .value) (c .before .before .before .before .before .before .before .before .before .before .before .before .before .before .before .before .before .args .id) (c .before .before .before .before .before .before .before .before .before .before .before .before .before .before .before .before .before .args .parameter .now) = (rw (id-back (c .before .before .before .before .before .before .before .before .before .before .before .before .before .before .before .before .before .fits .id)) at (rw (g .1) at (c .before .before .before .before .before .before .before .before .before .before .before .before .decide-result .ensures .0))) in
-    let f : c .before .before .before .before .before .before .write-answer .last .0 ≡ splice (c .before .before .before .before .before .before .before .before .before .before .before .before .before .before .before .before .before .args .buffer .now) 0 m = rw (id-back (c .before .before .before .before .before .before .before .before .before .before .before .before .before .before .before .before .before .fits .id), c .before .before .before .before .before .before .before .before .sent-first .ensures) at (c .before .before .before .before .before .before .write-answer .ensures .0) in
-    let l : c .before .before .before .before .before .before .write-answer .result ≡ length m = rw (id-back (c .before .before .before .before .before .before .before .before .before .before .before .before .before .before .before .before .before .fits .id), c .before .before .before .before .before .before .before .before .sent-first .ensures) at (c .before .before .before .before .before .before .write-answer .ensures .1) in
+    let e : sound s ≡ calls.sendResult (c .before .before .before .before .before .before .before .before .before .before .before .before .before .before .before .before .before .args .table .now) (length (c .before .before .before .before .before .before .before .before .before .before .before .before .before .before .before .before .before .args .buffer .now)) (c .before .before .before .before .before .before .before .before .before .before .before .before .before .before .before .before .before .args .flag) (c .before .before .before .before .before .before .before .before .before .before .before .before .before .before .before .before .before .args .value) (c .before .before .before .before .before .before .before .before .before .before .before .before .before .before .before .before .before .args .id) (c .before .before .before .before .before .before .before .before .before .before .before .before .before .before .before .before .before .args .parameter .now) = (rw (held-is (c .before .before .before .before .before .before .before .before .before .before .before .before .before .before .before .before .before .fits .id)) at (rw (g .1) at (c .before .before .before .before .before .before .before .before .before .before .before .before .decide-result .ensures .0))) in
+    let f : c .before .before .before .before .before .before .put-answer .last .0 ≡ splice (c .before .before .before .before .before .before .before .before .before .before .before .before .before .before .before .before .before .args .buffer .now) 0 m = rw (held-is (c .before .before .before .before .before .before .before .before .before .before .before .before .before .before .before .before .before .fits .id), c .before .before .before .before .before .before .before .before .sent-first .ensures) at (c .before .before .before .before .before .before .put-answer .ensures .0) in
+    let l : c .before .before .before .before .before .before .put-answer .result ≡ length m = rw (held-is (c .before .before .before .before .before .before .before .before .before .before .before .before .before .before .before .before .before .fits .id), c .before .before .before .before .before .before .before .before .sent-first .ensures) at (c .before .before .before .before .before .before .put-answer .ensures .1) in
     sent-as (c .before .before .before .before .before .before .before .before .before .before .before .before .before .before .before .before .before .args .table .now) (c .before .before .before .before .before .before .before .before .before .before .before .before .before .before .before .before .before .args .buffer .now) noValue (calls.sendResult (c .before .before .before .before .before .before .before .before .before .before .before .before .before .before .before .before .before .args .table .now) (length (c .before .before .before .before .before .before .before .before .before .before .before .before .before .before .before .before .before .args .buffer .now)) (c .before .before .before .before .before .before .before .before .before .before .before .before .before .before .before .before .before .args .flag) (c .before .before .before .before .before .before .before .before .before .before .before .before .before .before .before .before .before .args .value) (c .before .before .before .before .before .before .before .before .before .before .before .before .before .before .before .before .before .args .id) (c .before .before .before .before .before .before .before .before .before .before .before .before .before .before .before .before .before .args .parameter .now)) s 0 _ _ _ e refl l f (c .before .before .write-entry .ensures)
 
 pub smr-result-spec : {M : Type 1} → statement M
@@ -82,7 +82,7 @@ smr-result-spec =
     returns
     enum-known-entry
     sent-first-requires
-    write-answer-requires
+    put-answer-requires
     write-entry-requires
     same-length-2
     same-length-3

@@ -7,17 +7,17 @@ use Rattle.telephone.proofs.receive.act.Statement.{statement}
 use Rattle.telephone.proofs.receive.act.Tie as tie
 use Rattle.telephone.proofs.receive.act.Reads as reads
 use Rattle.telephone.proofs.receive.act.Lts as lts
-use Rattle.deciding.proofs.entry_of.Reads as entry-of-reads
+use Rattle.deciding.proofs.picked_entry.Reads as picked-entry-reads
 use Rattle.deciding.proofs.reply_first.Reads as reply-first-reads
-use Rattle.sending.proofs.write_release.Reads as write-release-reads
-use Rattle.sending.proofs.write_release_cause.Reads as write-release-cause-reads
-use Rattle.sending.proofs.write_release_reject.Reads as write-release-reject-reads
+use Rattle.sending.proofs.put_release.Reads as put-release-reads
+use Rattle.sending.proofs.put_release_cause.Reads as put-release-cause-reads
+use Rattle.sending.proofs.put_release_reject.Reads as put-release-reject-reads
 use Rattle.table.proofs.write_entry.Reads as write-entry-reads
 use Rattle.telephone.proofs.receive.close.Reads as close-reads
 use Rattle.telephone.proofs.receive.done.Reads as done-reads
 
-entry-of-requires : tie.Need-entry-of-requires
-entry-of-requires c κs = search needs
+picked-entry-requires : tie.Need-picked-entry-requires
+picked-entry-requires c κs = search needs
 
 reply-first-requires : tie.Need-reply-first-requires
 reply-first-requires c κs = search needs
@@ -36,8 +36,8 @@ returns c =
 enum-known-act-2 : tie.Need-enum-known-act-2
 enum-known-act-2 c = search needs
 
-write-release-cause-requires : tie.Need-write-release-cause-requires
-write-release-cause-requires c κs =
+put-release-cause-requires : tie.Need-put-release-cause-requires
+put-release-cause-requires c κs =
     let a = c .before .before .before .before .before .before .before .before .before .args in
     let w = c .before .before .before .before .before .before .before .before .before .pre .0 (acts (a .decision) _ (c .before .before .act2 .given .1) refl) in
     (cause-small (drop 2 (a .message .now)) (a .decision) _ (c .before .before .act2 .given .1) (c .before .before .before .before .before .before .before .before .before .pre .1), omega arith)
@@ -46,7 +46,7 @@ close-requires : tie.Need-close-requires
 close-requires c κs =
     let a = c .before .before .before .before .before .before .before .before .before .before .before .before .before .args in
     let w = c .before .before .before .before .before .before .before .before .before .before .before .before .before .pre .0 (acts (a .decision) _ (c .before .before .before .before .before .before .act2 .given .1) refl) in
-    rw (c .before .before .before .before .before .before .before .before .before .entry-of .ensures) (entry-fits (a .table .now) (a .message .now) _ w)
+    rw (c .before .before .before .before .before .before .before .before .before .picked-entry .ensures) (entry-fits (a .table .now) (a .message .now) _ w)
 
 done-requires-2 : tie.Need-done-requires-2
 done-requires-2 c κs = search needs
@@ -60,14 +60,14 @@ same-length-2 c = search needs
 returns-2 : tie.Need-returns-2
 returns-2 c =
     let a = c .before .before .before .before .before .before .before .before .before .before .before .before .before .before .before .before .before .args in
-    done-bare (a .table .now) (a .message .now) (a .reply .now) (a .decision) _ (c .before .before .before .before .before .before .before .before .before .before .act2 .given .1) (c .done2 .result) _ _ _ _ (c .done2 .ensures) refl (c .before .before .before .before .before .before .before .write-release-cause .ensures .1) refl
-    (rw (← c .before .before .before .before .before .before .before .before .before .before .before .before .reply-first .ensures) (c .before .before .before .before .before .before .before .write-release-cause .ensures .0)) (rw (← c .before .before .before .before .before .before .before .before .before .before .before .before .before .entry-of .ensures) (c .before .before .before .close .ensures))
+    done-bare (a .table .now) (a .message .now) (a .reply .now) (a .decision) _ (c .before .before .before .before .before .before .before .before .before .before .act2 .given .1) (c .done2 .result) _ _ _ _ (c .done2 .ensures) refl (c .before .before .before .before .before .before .before .put-release-cause .ensures .1) refl
+    (rw (← c .before .before .before .before .before .before .before .before .before .before .before .before .reply-first .ensures) (c .before .before .before .before .before .before .before .put-release-cause .ensures .0)) (rw (← c .before .before .before .before .before .before .before .before .before .before .before .before .before .picked-entry .ensures) (c .before .before .before .close .ensures))
 
 enum-known-act-3 : tie.Need-enum-known-act-3
 enum-known-act-3 c = search needs
 
-write-release-reject-requires : tie.Need-write-release-reject-requires
-write-release-reject-requires c κs =
+put-release-reject-requires : tie.Need-put-release-reject-requires
+put-release-reject-requires c κs =
     let a = c .before .before .before .before .before .before .before .before .before .args in
     let w = c .before .before .before .before .before .before .before .before .before .pre .0 (acts (a .decision) _ (c .before .before .act3 .given .1) refl) in
     omega arith
@@ -76,7 +76,7 @@ close-requires-2 : tie.Need-close-requires-2
 close-requires-2 c κs =
     let a = c .before .before .before .before .before .before .before .before .before .before .before .before .before .args in
     let w = c .before .before .before .before .before .before .before .before .before .before .before .before .before .pre .0 (acts (a .decision) _ (c .before .before .before .before .before .before .act3 .given .1) refl) in
-    rw (c .before .before .before .before .before .before .before .before .before .entry-of .ensures) (entry-fits (a .table .now) (a .message .now) _ w)
+    rw (c .before .before .before .before .before .before .before .before .before .picked-entry .ensures) (entry-fits (a .table .now) (a .message .now) _ w)
 
 done-requires-3 : tie.Need-done-requires-3
 done-requires-3 c κs = search needs
@@ -90,14 +90,14 @@ same-length-4 c = search needs
 returns-3 : tie.Need-returns-3
 returns-3 c =
     let a = c .before .before .before .before .before .before .before .before .before .before .before .before .before .before .before .before .before .args in
-    done-bare (a .table .now) (a .message .now) (a .reply .now) (a .decision) _ (c .before .before .before .before .before .before .before .before .before .before .act3 .given .1) (c .done3 .result) _ _ _ _ (c .done3 .ensures) refl (rw (← c .before .before .before .before .before .before .before .before .before .before .before .before .reply-first .ensures) (c .before .before .before .before .before .before .before .write-release-reject .ensures .1)) refl
-    (rw (← c .before .before .before .before .before .before .before .before .before .before .before .before .reply-first .ensures) (c .before .before .before .before .before .before .before .write-release-reject .ensures .0)) (rw (← c .before .before .before .before .before .before .before .before .before .before .before .before .before .entry-of .ensures) (c .before .before .before .close2 .ensures))
+    done-bare (a .table .now) (a .message .now) (a .reply .now) (a .decision) _ (c .before .before .before .before .before .before .before .before .before .before .act3 .given .1) (c .done3 .result) _ _ _ _ (c .done3 .ensures) refl (rw (← c .before .before .before .before .before .before .before .before .before .before .before .before .reply-first .ensures) (c .before .before .before .before .before .before .before .put-release-reject .ensures .1)) refl
+    (rw (← c .before .before .before .before .before .before .before .before .before .before .before .before .reply-first .ensures) (c .before .before .before .before .before .before .before .put-release-reject .ensures .0)) (rw (← c .before .before .before .before .before .before .before .before .before .before .before .before .before .picked-entry .ensures) (c .before .before .before .close2 .ensures))
 
 enum-told : tie.Need-enum-told
 enum-told c = search needs
 
-write-release-requires : tie.Need-write-release-requires
-write-release-requires c κs =
+put-release-requires : tie.Need-put-release-requires
+put-release-requires c κs =
     let a = c .before .before .before .before .before .before .before .before .args in
     let w = c .before .before .before .before .before .before .before .before .pre .0 (acts (a .decision) _ (c .before .enum-told .given .1) refl) in
     omega arith
@@ -106,7 +106,7 @@ close-requires-3 : tie.Need-close-requires-3
 close-requires-3 c κs =
     let a = c .before .before .before .before .before .before .before .before .before .before .before .before .args in
     let w = c .before .before .before .before .before .before .before .before .before .before .before .before .pre .0 (acts (a .decision) _ (c .before .before .before .before .before .enum-told .given .1) refl) in
-    rw (c .before .before .before .before .before .before .before .before .entry-of .ensures) (entry-fits (a .table .now) (a .message .now) _ w)
+    rw (c .before .before .before .before .before .before .before .before .picked-entry .ensures) (entry-fits (a .table .now) (a .message .now) _ w)
 
 done-requires-4 : tie.Need-done-requires-4
 done-requires-4 c κs = search needs
@@ -120,8 +120,8 @@ same-length-6 c = search needs
 returns-4 : tie.Need-returns-4
 returns-4 c =
     let a = c .before .before .before .before .before .before .before .before .before .before .before .before .before .before .before .before .args in
-    done-bare (a .table .now) (a .message .now) (a .reply .now) (a .decision) _ (c .before .before .before .before .before .before .before .before .before .enum-told .given .1) (c .done4 .result) _ _ _ _ (c .done4 .ensures) refl (c .before .before .before .before .before .before .before .write-release .ensures .1) refl
-    (rw (← c .before .before .before .before .before .before .before .before .before .before .before .reply-first .ensures) (c .before .before .before .before .before .before .before .write-release .ensures .0)) (rw (← c .before .before .before .before .before .before .before .before .before .before .before .before .entry-of .ensures) (c .before .before .before .close3 .ensures))
+    done-bare (a .table .now) (a .message .now) (a .reply .now) (a .decision) _ (c .before .before .before .before .before .before .before .before .before .enum-told .given .1) (c .done4 .result) _ _ _ _ (c .done4 .ensures) refl (c .before .before .before .before .before .before .before .put-release .ensures .1) refl
+    (rw (← c .before .before .before .before .before .before .before .before .before .before .before .reply-first .ensures) (c .before .before .before .before .before .before .before .put-release .ensures .0)) (rw (← c .before .before .before .before .before .before .before .before .before .before .before .before .picked-entry .ensures) (c .before .before .before .close3 .ensures))
 
 enum-known-act-4 : tie.Need-enum-known-act-4
 enum-known-act-4 c = search needs
@@ -130,7 +130,7 @@ close-requires-4 : tie.Need-close-requires-4
 close-requires-4 c κs =
     let a = c .before .before .before .before .before .before .before .before .before .args in
     let w = c .before .before .before .before .before .before .before .before .before .pre .0 (acts (a .decision) _ (c .before .before .act4 .given .1) refl) in
-    rw (c .before .before .before .before .before .entry-of .ensures) (entry-fits (a .table .now) (a .message .now) _ w)
+    rw (c .before .before .before .before .before .picked-entry .ensures) (entry-fits (a .table .now) (a .message .now) _ w)
 
 same-length-7 : tie.Need-same-length-7
 same-length-7 c = search needs
@@ -140,7 +140,7 @@ returns-5 c =
     let a = c .before .before .before .before .before .before .before .before .before .before .before .before .args in
     let g = c .before .before .before .before .before .act4 .given in
     done (a .table .now) (a .message .now) (a .reply .now) (a .decision) _ (g .1) (record { code = 5; written = 0; cause = g .0 .0 }) _ _ refl refl refl (cause-within (drop 2 (a .message .now)) (a .decision) _ (g .1) (c .before .before .before .before .before .before .before .before .before .before .before .before .pre .1))
-    (splice-none (a .reply .now)) (rw (← c .before .before .before .before .before .before .before .before .entry-of .ensures) (c .before .before .close4 .ensures))
+    (splice-none (a .reply .now)) (rw (← c .before .before .before .before .before .before .before .before .picked-entry .ensures) (c .before .before .close4 .ensures))
 
 enum-known-act-5 : tie.Need-enum-known-act-5
 enum-known-act-5 c = search needs
@@ -149,7 +149,7 @@ write-entry-requires : tie.Need-write-entry-requires
 write-entry-requires c κs =
     let a = c .before .before .before .before .before .before .before .before .before .args in
     let w = c .before .before .before .before .before .before .before .before .before .pre .0 (acts (a .decision) _ (c .before .before .act5 .given .1) refl) in
-    rw (c .before .before .before .before .before .entry-of .ensures) (entry-fits (a .table .now) (a .message .now) _ w)
+    rw (c .before .before .before .before .before .picked-entry .ensures) (entry-fits (a .table .now) (a .message .now) _ w)
 
 done-requires-5 : tie.Need-done-requires-5
 done-requires-5 c κs = search needs
@@ -161,33 +161,33 @@ returns-6 : tie.Need-returns-6
 returns-6 c =
     let a = c .before .before .before .before .before .before .before .before .before .before .before .before .before .args in
     done-bare (a .table .now) (a .message .now) (a .reply .now) (a .decision) _ (c .before .before .before .before .before .before .act5 .given .1) (c .done5 .result) _ _ _ _ (c .done5 .ensures) refl refl refl
-    (splice-none (a .reply .now)) (rw (← c .before .before .before .before .before .before .before .before .before .entry-of .ensures) (c .before .before .before .write-entry .ensures))
+    (splice-none (a .reply .now)) (rw (← c .before .before .before .before .before .before .before .before .before .picked-entry .ensures) (c .before .before .before .write-entry .ensures))
 
 pub act-spec : {M : Type 1} → statement M
 act-spec =
     tie.close
     (tie.spec
-    entry-of-requires
+    picked-entry-requires
     reply-first-requires
     enum-known-act
     done-requires
     returns
     enum-known-act-2
-    write-release-cause-requires
+    put-release-cause-requires
     close-requires
     done-requires-2
     same-length
     same-length-2
     returns-2
     enum-known-act-3
-    write-release-reject-requires
+    put-release-reject-requires
     close-requires-2
     done-requires-3
     same-length-3
     same-length-4
     returns-3
     enum-told
-    write-release-requires
+    put-release-requires
     close-requires-3
     done-requires-4
     same-length-5

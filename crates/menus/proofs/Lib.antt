@@ -1,2 +1,0 @@
-pub mod MenuLaws
-pub mod Worked
