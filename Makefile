@@ -1,5 +1,5 @@
 # The habits of this repository, thin over the toolchain.
-.PHONY: run test firmware size speed check dev format
+.PHONY: run test firmware size speed check dev edits format
 
 # The main job: prove the bench and all below it, and answer the worked messages.
 run:
@@ -28,6 +28,10 @@ check:
 # make dev CRATE=elements: the edit loop, in seconds; no verdict.
 dev:
 	rt dev $(CRATE)
+
+# make edits CRATE=elements: its wrong programs alone, each refused by its own function.
+edits:
+	edits/one $(CRATE)
 
 format:
 	rt fmt

@@ -2,10 +2,10 @@
 
 use crate::call::Call;
 use crate::chance::Chance;
-use crate::components::near;
 use crate::messages;
 use crate::occurrences::Occurrences;
 use crate::proved::compare;
+use crate::rare;
 use crate::tables;
 use crate::talk::Talk;
 use crate::wishes;
@@ -41,8 +41,7 @@ fn conversation(seed: u64) -> Vec<u8> {
                 talk.say(writing::spoiled(&mut c, &line));
             }
             16 if c.one_in(2) => talk.say(over(&mut c)),
-            17 => linked(&mut c, &mut talk),
-            18 => talk.say(released(&mut c, &talk)),
+            17..=20 => rare_call(&mut c, &mut talk),
             _ => one_call(&mut c, &mut talk),
         }
     }
@@ -93,27 +92,12 @@ fn damage(c: &mut Chance, talk: &mut Talk) {
     talk.say(table(c, &sound));
 }
 
-/// A getPassword that is linked to our registerPassword, which is rare by chance.
-fn linked(c: &mut Chance, talk: &mut Talk) {
-    let (value, own) = (c.below(7) as u8, c.id());
+/// A call that is rare by chance, from a table that suits it.
+fn rare_call(c: &mut Chance, talk: &mut Talk) {
     let mut image = talk.sound().to_vec();
-    let at = tables::place(1, value);
-    image[at..at + 5].copy_from_slice(&tables::open(Some([own, 17]), None));
+    let call = rare::call(c, &mut image);
     talk.say(table(c, &image));
-    let mut message = vec![0x8B | value << 4, 0x3A, 0x0E, 0xA1, 0x0C];
-    message.extend([0x02, 0x01, c.id(), 0x80, 0x01, near(c, own)]);
-    message.extend([0x02, 0x01, 18, 0x0A, 0x01, c.below(3) as u8]);
-    talk.say(writing::line(c, &Call::Receive(message)));
-}
-
-/// A release with a cause, which may be empty.
-fn released(c: &mut Chance, talk: &Talk) -> Vec<u8> {
-    let open = tables::open_one(c, talk.sound(), 0);
-    let (flag, value) = open.unwrap_or_default();
-    let length = c.below(4);
-    let mut message = vec![flag << 7 | value << 4 | 0x0B, 0x2A, 0x08, length as u8];
-    message.extend(c.octets(length));
-    writing::line(c, &Call::Receive(message))
+    talk.say(writing::line(c, &call));
 }
 
 /// A buffer at the edge of what a call needs, or any other, then a long one.

@@ -15,6 +15,8 @@ mod messages;
 mod notation;
 #[path = "../compare/parameters.rs"]
 mod parameters;
+#[path = "../compare/rare.rs"]
+mod rare;
 #[path = "../compare/report.rs"]
 mod report;
 #[path = "../compare/tables.rs"]

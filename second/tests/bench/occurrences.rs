@@ -3,10 +3,13 @@
 use std::collections::BTreeMap;
 
 #[derive(Default)]
-pub struct Occurrences(BTreeMap<String, u64>);
+pub struct Occurrences {
+    answers: u64,
+    counts: BTreeMap<String, u64>,
+}
 
-/// Each must occur at least so often.
-const LEAST: u64 = 100;
+/// Each must occur at least once in so many answers, over the whole run.
+const ANSWERS: u64 = 2_500;
 
 /// All that an answer's lines begin with.
 const NAMED: &[&str] = &[
@@ -58,22 +61,27 @@ const NAMED: &[&str] = &[
 impl Occurrences {
     pub fn add(&mut self, output: &[u8]) {
         let output = std::str::from_utf8(output).expect("plain text");
-        for line in output.lines().filter(|line| !line.is_empty()) {
-            *self.0.entry(kind(line)).or_default() += 1;
+        for line in output.lines() {
+            match line {
+                // The end of an answer.
+                "" => self.answers += 1,
+                _ => *self.counts.entry(kind(line)).or_default() += 1,
+            }
         }
     }
 
     /// Every one often enough, and no other.
     pub fn check(&self) {
         for name in NAMED {
-            let count = self.0.get(*name).copied().unwrap_or(0);
+            let count = self.counts.get(*name).copied().unwrap_or(0);
             println!("{name}: {count}");
-            if count < LEAST {
+            if count * ANSWERS < self.answers {
                 println!("| {name}: only {count}");
                 panic!("too few");
             }
         }
-        let known = self.0.keys().all(|name| NAMED.contains(&name.as_str()));
+        let mut names = self.counts.keys();
+        let known = names.all(|name| NAMED.contains(&name.as_str()));
         assert!(known, "a line that bench.md doesn't name");
     }
 }

@@ -16,6 +16,7 @@ mod later;
 mod messages;
 mod notation;
 mod parameters;
+mod rare;
 mod report;
 mod short;
 mod small;

@@ -3,6 +3,7 @@
 use crate::both::{compare, on_second, Call};
 use crate::chance::Chance;
 use crate::messages;
+use crate::rare;
 use crate::tables;
 use crate::tally::Tally;
 use crate::wishes;
@@ -51,6 +52,7 @@ fn hold(c: &mut Chance, length: usize, tally: &mut Tally) {
     };
     for _ in 0..length {
         let call = match c.below(5) {
+            _ if c.one_in(40) => rare::call(c, &mut table),
             0..=2 => Call::Receive(messages::message(c, &table)),
             _ => wishes::call(c, &table),
         };

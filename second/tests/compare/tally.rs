@@ -4,10 +4,13 @@ use crate::both::{Call, Facts};
 use std::collections::BTreeMap;
 
 #[derive(Default)]
-pub struct Tally(BTreeMap<(&'static str, u8), u64>);
+pub struct Tally {
+    calls: u64,
+    counts: BTreeMap<(&'static str, u8), u64>,
+}
 
-/// Each must occur at least so often.
-const LEAST: u64 = 100;
+/// Each must occur at least once in so many calls, over the whole run.
+const CALLS: u64 = 2_500;
 
 /// What 01 names.
 const NAMED: [(&str, &[u8]); 8] = [
@@ -23,6 +26,7 @@ const NAMED: [(&str, &[u8]); 8] = [
 
 impl Tally {
     pub fn add(&mut self, call: &Call, facts: &Facts) {
+        self.calls += 1;
         let is_received = matches!(call, Call::Receive(_));
         match (facts.code(), is_received) {
             (code @ 20.., _) => self.count("refusal", code),
@@ -49,17 +53,18 @@ impl Tally {
     }
 
     fn count(&mut self, name: &'static str, number: u8) {
-        *self.0.entry((name, number)).or_default() += 1;
+        *self.counts.entry((name, number)).or_default() += 1;
     }
 
     pub fn merge(&mut self, other: Tally) {
-        for (key, count) in other.0 {
-            *self.0.entry(key).or_default() += count;
+        self.calls += other.calls;
+        for (key, count) in other.counts {
+            *self.counts.entry(key).or_default() += count;
         }
     }
 
     pub fn print(&self) {
-        for ((name, number), count) in &self.0 {
+        for ((name, number), count) in &self.counts {
             println!("{name} {number}: {count}");
         }
     }
@@ -68,13 +73,13 @@ impl Tally {
     pub fn check(&self) {
         for (name, numbers) in NAMED {
             for number in numbers {
-                let count = self.0.get(&(name, *number)).copied().unwrap_or(0);
-                if count < LEAST {
+                let count = self.counts.get(&(name, *number)).copied().unwrap_or(0);
+                if count * CALLS < self.calls {
                     println!("| {name} {number}: only {count}");
                     panic!("too few");
                 }
             }
-            let others = self.0.keys().filter(|(n, _)| *n == name);
+            let others = self.counts.keys().filter(|(n, _)| *n == name);
             let known = others.clone().all(|(_, number)| numbers.contains(number));
             assert!(known, "a number that 01 doesn't name");
         }
