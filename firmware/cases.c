@@ -215,7 +215,7 @@ static void check_rest(const char *name, const outcome *o, bool received, const 
 static void run_case(char *line, int before)
 {
     static row message;
-    char *words[64], *facts = strstr(line, "->"), *name = strtok(line, " ");
+    char *words[64] = {0}, *facts = strstr(line, "->"), *name = strtok(line, " ");
     uint8_t old[SMR_TABLE];
     size_t buffer_length = 300;
     int count = 0, given;

@@ -22,7 +22,9 @@ extern "C" {
 /* No message that is sent is longer. */
 #define SMR_MESSAGE 255
 
-/* Verdicts on a received message. */
+/* Verdicts on a received message. Its component is shown with 0, unless the
+ * Facility value was empty; with 4 if the Reject was sound; with 5 if a sound
+ * result, error or Reject came. With the others nothing is shown. */
 #define SMR_TAKEN 0           /* nothing is sent */
 #define SMR_IGNORED 1         /* nothing is sent or changed */
 #define SMR_RELEASED_CAUSE 2  /* send the reply: a release with a cause */
@@ -39,7 +41,7 @@ extern "C" {
 #define SMR_NOT_OPEN 22       /* no open transaction of this flag and value */
 #define SMR_OUTSTANDING 23    /* invoke: ours still waits for its answer */
 #define SMR_NO_INVOKE 24      /* result, error: no such peer invoke waits */
-#define SMR_PARAMETER 25      /* the parameter is not of its kind */
+#define SMR_PARAMETER 25      /* not the parameter of the table below */
 #define SMR_LONG_MESSAGE 26   /* the message would pass 255 octets */
 #define SMR_SHORT_BUFFER 27   /* the buffer is too short */
 #define SMR_DAMAGED 28        /* the table is damaged, or not 70 octets */
@@ -57,13 +59,50 @@ extern "C" {
 #define SMR_PROBLEM_RESULT 0x82
 #define SMR_PROBLEM_ERROR 0x83
 
-/* A part of the caller's own message: from start up to, not including, end. */
+/* Which parameter goes with which operation (decimal, then hex):
+ *
+ *   operation                           our invoke         result that comes
+ *   10 0A registerSS                    one element        one element or none
+ *   11 0B eraseSS                       SS-ForBS           one element or none
+ *   12 0C activateSS                    SS-ForBS           one element or none
+ *   13 0D deactivateSS                  SS-ForBS           one element or none
+ *   14 0E interrogateSS                 SS-ForBS           one element or none
+ *   17 11 registerPassword              service code       Password
+ *   59 3B processUnstructuredSS-Request USSD-Arg           USSD-Res or none
+ *
+ *   operation                           the peer's invoke  our result
+ *   18 12 getPassword                   Guidance           Password
+ *   38 26 forwardCheckSS-Indication     none               it has no answer
+ *   60 3C unstructuredSS-Request        USSD-Arg           USSD-Res or none
+ *   61 3D unstructuredSS-Notify         USSD-Arg           none
+ *
+ * An error, ours or the peer's, has one element or none and one of the codes
+ * 1, 9 to 13, 16 to 21, 27, 34 to 38, 43, 71, 72
+ * (hex 01, 09 to 0D, 10 to 15, 1B, 22 to 26, 2B, 47, 48).
+ *
+ * The parameters, in hex; ll is the length of the contents behind it, 00 to 7F,
+ * or 81 and one octet for more:
+ *
+ *   USSD-Arg, USSD-Res   30 ll, holding 04 01 and the coding scheme, then 04 ll
+ *                        and the string of 1 to 160 octets, then any elements
+ *   SS-ForBS             30 ll, holding 04 01 and the service, then perhaps 82
+ *                        or 83, 01 and one octet, then any elements
+ *   service code         04 01 and the service
+ *   Guidance             0A 01 and 00, 01 or 02
+ *   Password             12 04 and four octets
+ *   one element          a tag (not 00, nor with its low five bits all ones),
+ *                        ll, contents
+ */
+
+/* A part of the caller's own message: from start up to, not including, end. A
+ * part that is not there is empty: start and end are both where it would stand,
+ * or both 0 if what it belongs to is not there either. */
 typedef struct {
     size_t start;
     size_t end;
 } smr_span;
 
-/* A component that is shown. What is not there is 0. */
+/* A component that is shown. Numbers that are not there are 0. */
 typedef struct {
     uint8_t kind;       /* SMR_NOTHING, SMR_INVOKE .. SMR_REJECT */
     bool has_id;        /* false only for a Reject without an id, or nothing */
@@ -113,7 +152,16 @@ smr_received smr_receive(uint8_t *table, size_t table_length,
 
 /* In the calls below a parameter is one element, with its tag and length; 0
  * octets mean none. A transaction is named by the flag under which its messages
- * are received (1 if we began it, 0 if the network did) and its value. */
+ * are received (1 if we began it, 0 if the network did) and its value, 0 to 6.
+ * Both stand in the first octet of each message received; of one that we begin
+ * the flag is 1 and smr_begin returns the value. */
+#define SMR_FLAG(first) ((uint8_t)((uint8_t)(first) >> 7))
+#define SMR_VALUE(first) ((uint8_t)((uint8_t)(first) >> 4 & 7))
+
+/* A transaction stays open after a result or error, sent or received. It is
+ * over with the verdicts 2 to 5 and after smr_release. Ours to release is one
+ * that we began, once our invoke was answered with verdict 0 and we have no
+ * more to ask; and one that the network began with 38, which has no answer. */
 
 /* Begins a transaction: REGISTER with an Invoke. */
 smr_called smr_begin(uint8_t *table, size_t table_length,

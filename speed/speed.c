@@ -1,6 +1,11 @@
-/* How long a call takes, in nanoseconds: the best of many runs, so that other
- * work on the machine is left out. With OSMO, libosmogsm's decoder beside it, on
- * the same messages in the same run. */
+/* How long a call takes, in nanoseconds: the best of many runs, so that other work
+ * on the machine is left out. With OSMO, libosmogsm's decoder beside it, on the
+ * same message in the same run.
+ *
+ *   speed               each call that is measured: its function and its name
+ *   speed NAME          our nanoseconds, and the decoder's, can't or -
+ *   speed NAME ours N   N calls, CALLS at most, for counting instructions
+ *   speed NAME its N    the same with the decoder */
 #define _POSIX_C_SOURCE 199309L
 #include "smrcholet.h"
 
@@ -13,45 +18,92 @@
 #include <osmocom/gsm/gsm0480.h>
 #endif
 
-#ifndef RUNS
-#define RUNS 40000
-#endif
-enum { CALLS = 200 };
+enum { RUNS = 40000, CALLS = 200, MENU = 5, QUESTION = 1 };
 
-/* Each call has a fresh table, made before the clock starts. */
+/* A message, or one of our own calls, and the first entry of the table before it. */
+typedef struct {
+    const char *name, *function;
+    uint8_t kind, first, type, scheme;
+    size_t string, tail;
+    uint8_t entry[5];
+} step;
+
+#define FRESH {0, 0, 0, 0, 0}
+#define ASKED {3, QUESTION, 59, 0, 0}
+#define WAITS {7, QUESTION, 59, MENU, 60}
+
+static const step steps[] = {
+    /* a network begins with a menu */
+    {"W1", "smr_receive", SMR_INVOKE, 0x0B, 0x3B, 0x0F, 1, 0, FRESH},
+    {"W1, scheme 44", "smr_receive", SMR_INVOKE, 0x0B, 0x3B, 0x44, 1, 0, FRESH},
+    {"string of 114", "smr_receive", SMR_INVOKE, 0x0B, 0x3B, 0x44, 114, 0, FRESH},
+    {"string of 120", "smr_receive", SMR_INVOKE, 0x0B, 0x3B, 0x44, 120, 0, FRESH},
+    {"longest", "smr_receive", SMR_INVOKE, 0x0B, 0x3B, 0x44, 160, 73, FRESH},
+    /* the usual conversation: we ask, are asked in turn, answer, and get our answer */
+    {"begin", "smr_begin", SMR_NOTHING, 0, 0, 0, 0, 0, FRESH},
+    {"menu of 1", "smr_receive", SMR_INVOKE, 0x8B, 0x3A, 0x44, 1, 0, ASKED},
+    {"menu of 114", "smr_receive", SMR_INVOKE, 0x8B, 0x3A, 0x44, 114, 0, ASKED},
+    {"result", "smr_result", SMR_NOTHING, 0, 0, 0, 0, 0, WAITS},
+    {"end, result", "smr_receive", SMR_RESULT, 0x8B, 0x2A, 0x44, 1, 0, ASKED},
+    {"end, error", "smr_receive", SMR_ERROR, 0x8B, 0x2A, 0, 0, 0, ASKED},
+    {"error", "smr_receive", SMR_ERROR, 0x8B, 0x3A, 0, 0, 0, ASKED},
+};
+
+/* Each call has a table of its own, made before the clock starts. */
 static uint8_t tables[CALLS][SMR_TABLE], message[300], reply[SMR_REPLY], out[SMR_MESSAGE];
 static size_t length;
+static const uint8_t text[] = {0x30, 0x06, 0x04, 0x01, 0x0F, 0x04, 0x01, 0x41};
 static unsigned kept; /* what a call gave is used, so that none is left out */
 
-/* A REGISTER with an Invoke of 60 whose string has n octets of scheme 44. */
-static void make_menu(size_t n, size_t tail)
+/* Octets put before what is there of the message. */
+static void put(size_t n, const uint8_t *octets)
 {
-    uint8_t text[260], *p = text, *m = message;
-    size_t inner, outer;
-    *p++ = 0x04, *p++ = 0x01, *p++ = 0x44, *p++ = 0x04;
-    if (n > 127) *p++ = 0x81;
-    *p++ = (uint8_t)n;
-    memset(p, 0x41, n);
-    p += n;
-    if (tail > 0) {
-        *p++ = 0x04, *p++ = (uint8_t)(tail - 2);
-        memset(p, 0, tail - 2);
-        p += tail - 2;
+    memmove(message + n, message, length);
+    memcpy(message, octets, n);
+    length += n;
+}
+
+/* An element made of what is there. */
+static void wrap(uint8_t tag)
+{
+    if (length > 127) put(3, (uint8_t[]){tag, 0x81, (uint8_t)length});
+    else put(2, (uint8_t[]){tag, (uint8_t)length});
+}
+
+static void make_text(const step *s)
+{
+    static uint8_t octets[160];
+    memset(octets, 0x41, sizeof octets);
+    length = s->string;
+    memcpy(message, octets, length);
+    wrap(0x04);
+    put(3, (uint8_t[]){0x04, 0x01, s->scheme});
+    if (s->tail > 0) { /* one element, last */
+        memset(message + length, 0, s->tail);
+        message[length] = 0x04, message[length + 1] = (uint8_t)(s->tail - 2);
+        length += s->tail;
     }
-    inner = (size_t)(p - text);
-    outer = 6 + inner + (inner > 127 ? 3 : 2);
-    *m++ = 0x0B, *m++ = 0x3B, *m++ = 0x1C;
-    *m++ = (uint8_t)(outer + (outer > 127 ? 3 : 2));
-    *m++ = 0xA1;
-    if (outer > 127) *m++ = 0x81;
-    *m++ = (uint8_t)outer;
-    memcpy(m, (uint8_t[]){0x02, 0x01, 0x05, 0x02, 0x01, 0x3C, 0x30}, 7);
-    m += 7;
-    if (inner > 127) *m++ = 0x81;
-    *m++ = (uint8_t)inner;
-    memcpy(m, text, inner);
-    length = (size_t)(m - message) + inner;
-    if (n == 1) message[16] = 0x0F; /* W1 */
+    wrap(0x30);
+}
+
+static void make_message(const step *s)
+{
+    length = 0;
+    if (s->kind == SMR_INVOKE) {
+        make_text(s);
+        put(6, (uint8_t[]){0x02, 0x01, MENU, 0x02, 0x01, 60});
+    } else if (s->kind == SMR_RESULT) {
+        make_text(s);
+        put(3, (uint8_t[]){0x02, 0x01, 59});
+        wrap(0x30);
+        put(3, (uint8_t[]){0x02, 0x01, QUESTION});
+    } else {
+        put(6, (uint8_t[]){0x02, 0x01, QUESTION, 0x02, 0x01, 17});
+    }
+    wrap(s->kind);
+    put(1, (uint8_t[]){(uint8_t)length});
+    if (s->type != 0x3A) put(1, (uint8_t[]){0x1C});
+    put(2, (uint8_t[]){s->first, s->type});
 }
 
 static void receive(int i)
@@ -62,81 +114,100 @@ static void receive(int i)
 
 static void begin(int i)
 {
-    static const uint8_t text[] = {0x30, 0x06, 0x04, 0x01, 0x0F, 0x04, 0x01, 0x41};
-    kept += (unsigned)smr_begin(tables[i], SMR_TABLE, 59, 1, text, sizeof text, out, sizeof out).written;
+    kept += (unsigned)smr_begin(tables[i], SMR_TABLE, 59, QUESTION, text, sizeof text, out, sizeof out).written;
+}
+
+static void result(int i)
+{
+    kept += (unsigned)smr_result(tables[i], SMR_TABLE, 1, 0, MENU, text, sizeof text, out, sizeof out).written;
 }
 
 #ifdef OSMO
 static struct ss_request request;
 
-/* The decoder alone, as ours has its table made before the clock starts. */
+/* The decoder alone: its struct is left as it stands. */
 static void decode(int i)
 {
     (void)i;
     kept += (unsigned)gsm0480_decode_ss_request((const struct gsm48_hdr *)message, (uint16_t)length, &request) + request.opcode;
 }
 
-/* It leaves most of the struct unset; a caller who wants zeros there clears it. */
-static void clear_and_decode(int i)
+/* Whether it reads at least the id: of some messages it says so and reads nothing. */
+static bool decodes(const step *s)
 {
-    memset(&request, 0, sizeof request);
-    decode(i);
+    memset(&request, 0xEE, sizeof request);
+    return gsm0480_decode_ss_request((const struct gsm48_hdr *)message, (uint16_t)length, &request) == 1 &&
+           request.invoke_id == (s->kind == SMR_INVOKE ? MENU : QUESTION);
 }
-#define OTHERS decode, clear_and_decode
-#else
-#define OTHERS NULL, NULL
 #endif
 
-static double once(void (*call)(int))
+static void make_tables(const step *s)
+{
+    memset(tables, 0, sizeof tables);
+    for (int i = 0; i < CALLS; i++) memcpy(tables[i], s->entry, sizeof s->entry);
+}
+
+/* A message is taken and shown, or a call sends something: nothing else is measured. */
+static bool is_done(const step *s, void (*call)(int))
+{
+    make_tables(s);
+    if (call != receive) return call(0), tables[0][0] != s->entry[0];
+    smr_received r = smr_receive(tables[0], SMR_TABLE, message, length, reply, sizeof reply);
+    return r.code == (s->type == 0x2A ? SMR_RELEASED : SMR_TAKEN) && r.shown.kind == s->kind;
+}
+
+static double once(const step *s, void (*call)(int))
 {
     struct timespec a, b;
-    memset(tables, 0, sizeof tables);
+    make_tables(s);
     clock_gettime(CLOCK_MONOTONIC, &a);
     for (int i = 0; i < CALLS; i++) call(i);
     clock_gettime(CLOCK_MONOTONIC, &b);
     return ((double)(b.tv_sec - a.tv_sec) * 1e9 + (double)(b.tv_nsec - a.tv_nsec)) / CALLS;
 }
 
-/* The best run of each call, in turns: what slows the machine slows all. */
-static void measure(const char *name, void (*call)(int), void (*other)(int), void (*cleared)(int))
+/* The best run of each, in turns: what slows the machine slows both. Where there
+ * is no other, a word for it. */
+static void measure(const step *s, void (*ours)(int), void (*its)(int), const char *word)
 {
-    void (*calls[])(int) = {call, other, cleared};
-    const char *names[] = {name, "  osmogsm's decoder", "  and its struct cleared"};
-    double best[] = {1e9, 1e9, 1e9};
-    for (int i = 0; i < RUNS; i++)
-        for (int k = 0; k < 3; k++) {
-            if (calls[k] == NULL) continue;
-            double t = once(calls[k]);
-            best[k] = t < best[k] ? t : best[k];
-        }
-    for (int k = 0; k < 3; k++)
-        if (calls[k] != NULL) printf("%-24s %6.1f ns\n", names[k], best[k]);
-}
-
-static void measure_menu(const char *name, size_t n, size_t tail, void (*other)(int), void (*cleared)(int))
-{
-    char line[32];
-    make_menu(n, tail);
-    snprintf(line, sizeof line, "%s, %zu", name, length);
-    measure(line, receive, other, cleared);
+    double best = 1e9, other = 1e9;
+    for (int i = 0; i < RUNS; i++) {
+        double t = once(s, ours), u = its == NULL ? 0 : once(s, its);
+        best = t < best ? t : best;
+        other = u < other ? u : other;
+    }
+    printf("%.0f ", best);
+    if (its == NULL) puts(word);
+    else printf("%.0f\n", other);
 }
 
 int main(int argc, char **argv)
 {
-    if (argc > 3) { /* for counting instructions: so many calls of one kind, CALLS at most */
-        void (*call)(int) = strcmp(argv[2], "begin") == 0 ? begin : receive;
-#ifdef OSMO
-        if (strcmp(argv[2], "decode") == 0) call = decode;
-#endif
-        make_menu((size_t)atoi(argv[3]), argc > 4 ? (size_t)atoi(argv[4]) : 0);
-        for (int i = 0, n = atoi(argv[1]); i < n; i++) call(i);
-        return 0;
+    const step *s = steps;
+    for (size_t i = 0; i < sizeof steps / sizeof *steps; i++) {
+        if (argc < 2) printf("%s %s\n", steps[i].function, steps[i].name);
+        else if (strcmp(steps[i].name, argv[1]) == 0) s = &steps[i];
     }
-    measure_menu("W1", 1, 0, OTHERS);
-    measure_menu("string of 114", 114, 0, OTHERS);
-    /* from here on lengths have the long form, which the other one can't read */
-    measure_menu("string of 120", 120, 0, NULL, NULL);
-    measure_menu("longest", 160, 73, NULL, NULL);
-    measure("begin", begin, NULL, NULL);
-    return kept == 0;
+    if (argc < 2) return 0;
+
+    void (*ours)(int) = receive, (*its)(int) = NULL;
+    const char *word = "-";
+    if (s->kind != SMR_NOTHING) make_message(s);
+    else ours = strcmp(s->name, "begin") == 0 ? begin : result;
+#ifdef OSMO
+    if (s->kind != SMR_NOTHING) {
+        word = "can't";
+        its = argc > 3 || decodes(s) ? decode : NULL; /* no call more than are counted */
+    }
+#endif
+    if (argc > 3) {
+        make_tables(s);
+        if (strcmp(argv[2], "its") == 0) ours = its;
+        for (int i = 0, n = atoi(argv[3]); i < n && ours != NULL; i++) ours(i);
+    } else if (is_done(s, ours)) {
+        measure(s, ours, its, word);
+    } else {
+        puts("wrong -");
+    }
+    return 0;
 }
