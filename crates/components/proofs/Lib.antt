@@ -4,3 +4,4 @@ pub mod LaterLaws
 pub mod FaultIds
 pub mod Determined
 pub mod Worked
+pub mod Was

@@ -1,7 +1,7 @@
 -- One element: it looks only at what it takes, what is written reads back, and the shortest form is the shortest.
 use Prim.Native.Nat.{ℕ, suc, _+_, _-_, _*_, _/_, _%_, _≤_, _<_}
 use mathlib.Core.Path.{_≡_, refl, sym, ap, _∙_}
-use mathlib.Core.List.{List, [], _∷_, _++_, append-assoc}
+use mathlib.Core.List.{List, [], _∷_, _++_, append-assoc, append-nil}
 use mathlib.Core.Bool.{Bool, true, false, cond, not}
 use native.Mathlib.Omega.{arith}
 use native.Mathlib.Nat.{div-add-mod', div-lt-iff-lt-mul, mod-lt}
@@ -9,8 +9,9 @@ use lib.ListN.{length, length-append}
 use lib.Dec.{ltb, eqb}
 use borrow.Author.Tests.{ltb-true, ltb-false, lt-ltb, le-ltb}
 use Rattle.octets.specs.Octets.{Octets}
-use Rattle.octets.specs.Reader.{Answer, fault, sound, Taken, took, Reader, done, octet, front}
-use Rattle.octets.proofs.ReaderLaws.{sound-inj, not-sound, through, passed, Local, IsLocal, done-local, seq-local, need-local, cond-local, octet-local, front-local, front-back, stays, either}
+use Rattle.octets.specs.Reader.{Answer, fault, sound, Taken, took, Reader, done, octet, front, isEmpty}
+use Rattle.octets.proofs.ReaderLaws.{sound-inj, not-sound, through, passed, Local, IsLocal, done-local, seq-local, need-local, cond-local, octet-local, front-local, front-back, stays, either, front-was, empty-is}
+use Rattle.octets.proofs.EndLaws.{Ends}
 use Rattle.elements.specs.Element.{missing, unreadable, refusedTag, twoOctets, lengthOf, Element, element, shortest, header, written}
 
 pub length-local : IsLocal lengthOf
@@ -122,3 +123,24 @@ length-readable (a ∷ s) g o e =
     three [] w h = not-sound h
     three (b ∷ []) w h = not-sound h
     three (b ∷ l ∷ t) w h = rw (← sound-inj h) (readable-three a b l t (w .0) (w .1 .0))
+
+-- the contents of an element and what follows it stand at the end
+pub element-ends : (s : List ℕ) (g : Taken Element) → element s ≡ sound g → Ends (g .value .contents ++ g .rest) s
+unfolding element
+element-ends [] g e = not-sound e
+element-ends (a ∷ s) g e =
+    passed (not (refusedTag a)) unreadable _ g e λ n h.
+    through (lengthOf s) _ g h λ k u v.
+    through (front unreadable (k .value) (k .rest)) _ g v λ f y z.
+    let l = length-local s k u in
+    let w = front-was unreadable (k .value) (k .rest) f y in
+    let d = sound-inj z in (
+      a ∷ l .taken,
+      ap (λ (x : List ℕ). a ∷ x) (l .split ∙ ap (λ (x : List ℕ). l .taken ++ x) (w .0)) ∙ ap (λ (j : Taken Element). a ∷ (l .taken ++ (j .value .contents ++ j .rest))) d,
+    )
+
+-- the contents of an element that fills s
+pub alone-ends : (s : List ℕ) (g : Taken Element) → element s ≡ sound g → isEmpty (g .rest) ≡ true → Ends (g .value .contents) s
+alone-ends s g e n =
+    let x = element-ends s g e in
+    (x .0, x .1 ∙ ap (λ (r : List ℕ). x .0 ++ (g .value .contents ++ r)) (empty-is (g .rest) n) ∙ ap (λ (r : List ℕ). x .0 ++ r) (append-nil (g .value .contents)))

@@ -1,7 +1,7 @@
 -- Information elements and the mandatory part: they look only at what they take, the scans go on behind a whole element,
 -- and a longer Facility value in the place of another is found where that one was.
 use Prim.Native.Nat.{ℕ, zero, suc, _+_, _≤_, _<_}
-use mathlib.Core.Path.{_≡_, refl, sym, ap, _∙_}
+use mathlib.Core.Path.{_≡_, refl, sym, ap, _∙_, subst}
 use mathlib.Core.List.{List, [], _∷_, _++_, append-assoc}
 use mathlib.Core.Bool.{Bool, true, false, cond, _&&_, _||_, and-true}
 use mathlib.Core.Option.{Option, none, some}
@@ -11,7 +11,8 @@ use lib.Seq.{length-take-le}
 use lib.Dec.{leb, eqb}
 use borrow.Author.Tests.{lt-leb, leb-true, ne-eqb, eqb-true, eqb-false}
 use Rattle.octets.specs.Reader.{Answer, fault, sound, Taken, took, seq, done, need, octet, front, isEmpty}
-use Rattle.octets.proofs.ReaderLaws.{sound-inj, not-sound, through, passed, Local, IsLocal, done-local, seq-local, need-local, cond-local, octet-local, front-local, front-back, stays, either}
+use Rattle.octets.proofs.ReaderLaws.{sound-inj, not-sound, through, passed, Local, IsLocal, done-local, seq-local, need-local, cond-local, octet-local, front-local, front-back, stays, either, front-was}
+use Rattle.octets.proofs.EndLaws.{Ends, further-ends}
 use Rattle.messages.specs.Layout.{mandatoryMissing, registerType, facilityType, sized, mandatory}
 use Rattle.messages.specs.Scan.{Information, absent, cut, information, onward, clearOf, clear, required, wanted, firstOf, firstTaken, contentsOf, firstWhole}
 use Rattle.messages.specs.LaterEdition.{Passed, nothing, another}
@@ -297,3 +298,56 @@ first-found w s v h e = go (length s) s (omega arith) e
     go : (m : ℕ) (x : List ℕ) → length x ≤ m → firstWhole w x ≡ some v → FirstAt w x v
     go zero x l k = turn x (information x) refl k (λ r j f. absurd (omega arith))
     go (suc m) x l k = turn x (information x) refl k (λ r j f. go m r (omega arith) f)
+
+-- a REGISTER or FACILITY in which the Facility value was found was laid so
+pub required-was : (type : ℕ) (s : List ℕ) (g : Taken (List ℕ)) → required type s ≡ sound g → s ≡ laid type (g .value) (g .rest)
+unfolding required
+required-was type s g e =
+    through (mandatory type s) _ g e λ k p r.
+    passed (clear (k .rest)) mandatoryMissing (sound k) g r λ t z.
+    mandatory-is type s (g .value) (g .rest) (p ∙ z)
+
+some-inj : {a b : Taken (List ℕ)} → some a ≡ some b → a ≡ b
+some-inj e = cc
+
+-- the contents of an information element, and what stands behind it
+length-ends : (i : ℕ) (s : List ℕ) (g : Taken Information)
+    → seq (octet cut) (λ n. seq (front cut n) (λ v. done (record { identifier = i; contents = v }))) s ≡ sound g → Ends (g .value .contents ++ g .rest) (i ∷ s)
+length-ends i [] g e = not-sound e
+length-ends i (n ∷ s) g e =
+    through (front cut n s) _ g e λ f p q.
+    let w = front-was cut n s f p in
+    (i ∷ n ∷ [], ap (λ (l : List ℕ). i ∷ n ∷ l) (w .0) ∙ ap (λ (j : Taken Information). i ∷ n ∷ (j .value .contents ++ j .rest)) (sound-inj q))
+
+information-ends : (s : List ℕ) (g : Taken Information) → information s ≡ sound g → Ends (g .value .contents ++ g .rest) s
+unfolding information
+information-ends [] g e = not-sound e
+information-ends (i ∷ s) g e =
+    either (leb 0x80 i) (done (record { identifier = i; contents = [] })) _ s g e
+    (λ _ k. (i ∷ [], ap (λ (j : Taken Information). i ∷ (j .value .contents ++ j .rest)) (sound-inj k)))
+    (λ _ k. length-ends i s g k)
+
+pub taken-ends : (w : ℕ) (s : List ℕ) (v : Taken (List ℕ)) → firstTaken w s ≡ some v → Ends (v .value ++ v .rest) s
+taken-ends w s v e = go (length s) s (omega arith) e
+  where
+    met : (x : List ℕ) (g : Taken Information) → information x ≡ sound g → (b : Bool)
+        → cond b (some (record { value = g .value .contents; rest = g .rest })) (firstTaken w (g .rest)) ≡ some v
+        → (firstTaken w (g .rest) ≡ some v → Ends (v .value ++ v .rest) (g .rest)) → Ends (v .value ++ v .rest) x
+    met x g p true k ih = subst (λ (z : Taken (List ℕ)). Ends (z .value ++ z .rest) x) (some-inj k) (information-ends x g p)
+    met x g p false k ih = let l = information-local x g p in further-ends (v .value ++ v .rest) (g .rest) x (ih k) (l .taken, l .split)
+
+    turn : (x : List ℕ) (o : Answer (Taken Information)) → information x ≡ o → firstTaken w x ≡ some v
+        → ((r : List ℕ) → length r < length x → firstTaken w r ≡ some v → Ends (v .value ++ v .rest) r) → Ends (v .value ++ v .rest) x
+    turn x (fault n) p k ih = let y = sym (taken-none w x n p) ∙ k in let z : _≡_ {A = ℕ} 0 1 = cc in absurd (omega arith)
+    turn x (sound g) p k ih = met x g p (eqb (g .value .identifier) w) (sym (taken-step w x g p) ∙ k) (ih (g .rest) (information-shorter x g p))
+
+    go : (m : ℕ) (x : List ℕ) → length x ≤ m → firstTaken w x ≡ some v → Ends (v .value ++ v .rest) x
+    go zero x l k = turn x (information x) refl k (λ r j f. absurd (omega arith))
+    go (suc m) x l k = turn x (information x) refl k (λ r j f. go m r (omega arith) f)
+
+pub laid-ends : (type : ℕ) (v r s : List ℕ) → s ≡ laid type v r → Ends (v ++ r) s
+laid-ends type v r s e = go (eqb type registerType) e
+  where
+    go : (b : Bool) → s ≡ cond b (0x1C ∷ length v ∷ (v ++ r)) (length v ∷ (v ++ r)) → Ends (v ++ r) s
+    go true h = (0x1C ∷ length v ∷ [], h)
+    go false h = (length v ∷ [], h)

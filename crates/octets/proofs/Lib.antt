@@ -4,3 +4,4 @@ pub mod SpliceLaws
 pub mod ReaderLaws
 pub mod TestLaws
 pub mod Determined
+pub mod EndLaws

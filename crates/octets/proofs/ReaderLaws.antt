@@ -127,3 +127,14 @@ front-at n j k s h = rw (le-leb j (length (drop k s)) (simp length-drop (omega a
 
 pub front-cut : (n j k : ℕ) (s : List ℕ) → k ≤ length s → length s < k + j → front n j (drop k s) ≡ fault n
 front-cut n j k s g h = rw (lt-leb j (length (drop k s)) (simp length-drop (omega arith)))
+
+-- what stood at the front is what was taken
+pub front-was : (n k : ℕ) (s : List ℕ) (g : Taken (List ℕ)) → front n k s ≡ sound g → (s ≡ g .value ++ g .rest) × (length (g .value) ≡ k)
+front-was n k s g e =
+    passed (leb k (length s)) n (took (take k s) (drop k s)) g e λ t r.
+    rw (← sound-inj r) (sym (take-append-drop k s), length-take-le k s (leb-true k (length s) t))
+
+-- a sound answer on one branch or the other
+pub branch : {A C : Type 0} (b : Bool) (o p : Answer A) (a : A) → cond b o p ≡ sound a → (b ≡ true → o ≡ sound a → C) → (b ≡ false → p ≡ sound a → C) → C
+branch true o p a e this other = this refl e
+branch false o p a e this other = other refl e

@@ -1,15 +1,16 @@
 -- Parameters: what was read stays with a longer tail, and what the code's answers tell of the definitions.
 use Prim.Native.Nat.{ℕ}
-use mathlib.Core.Path.{_≡_, refl, sym, ap, _∙_}
-use mathlib.Core.List.{List, [], _++_, append-nil}
+use mathlib.Core.Path.{_≡_, refl, sym, ap, _∙_, subst}
+use mathlib.Core.List.{List, [], _++_, append-nil, append-assoc}
 use mathlib.Core.Bool.{Bool, true, false, _&&_}
 use lib.ListN.{length, getD}
 use lib.Dec.{leb, eqb}
 use borrow.Author.Tests.{eq-eqb}
-use Rattle.octets.specs.Reader.{Answer, fault, sound, Taken, took}
-use Rattle.octets.proofs.ReaderLaws.{sound-inj, not-sound, through, passed, IsLocal, done-local, seq-local, need-local, stays}
+use Rattle.octets.specs.Reader.{Answer, fault, sound, Taken, took, alone}
+use Rattle.octets.proofs.ReaderLaws.{sound-inj, not-sound, through, passed, IsLocal, done-local, seq-local, need-local, stays, alone-is}
+use Rattle.octets.proofs.EndLaws.{Ends, further-ends}
 use Rattle.elements.specs.Element.{refusedTag, element, row, written}
-use Rattle.elements.proofs.ElementLaws.{element-local, written-reads-back}
+use Rattle.elements.proofs.ElementLaws.{element-local, element-ends, alone-ends, written-reads-back}
 use Rattle.elements.proofs.RowLaws.{row-append}
 use Rattle.parameters.specs.Parameter.{mistyped, isSound, holding, string, Text, text, ussdContents, ussd, contentsAre}
 use Rattle.parameters.specs.Seen.{refusal}
@@ -74,3 +75,32 @@ told-isSound = told isSound (λ n. refl)
 
 pub told-inside : (test : List ℕ → Bool) (o q : Answer (List ℕ)) → q ≡ refusal o → contentsAre q test ≡ contentsAre o test
 told-inside test = told (λ o. contentsAre o test) (λ n. refl)
+
+-- a text stands at the end of its parameter, the tail at the end of the text
+string-ends : (low high : ℕ) (s : List ℕ) (g : Taken (List ℕ)) → string low high s ≡ sound g → Ends (g .value ++ g .rest) s
+unfolding string
+string-ends low high s g e =
+    through (element s) _ g e λ k u v.
+    passed (eqb (k .value .tag) 0x04) mistyped _ g v λ t v₁.
+    passed (leb low (length (k .value .contents)) && leb (length (k .value .contents)) high) mistyped (took (k .value .contents) (k .rest)) g v₁ λ l v₂.
+    subst (λ (z : Taken (List ℕ)). Ends (z .value ++ z .rest) s) (sound-inj v₂) (element-ends s k u)
+
+text-ends : (s : List ℕ) (g : Taken Text) → text s ≡ sound g → Ends (g .value .string ++ g .rest) s
+unfolding text
+text-ends s g e =
+    through (string 1 1 s) _ g e λ a u v.
+    through (string 1 160 (a .rest)) _ g v λ o w z.
+    let x = string-ends 1 1 s a u in
+    let y = subst (λ (j : Taken Text). Ends (j .value .string ++ j .rest) (a .rest)) (sound-inj z) (string-ends 1 160 (a .rest) o w) in
+    further-ends _ (a .rest) s y (x .0 ++ a .value, x .1 ∙ sym (append-assoc (x .0) (a .value) (a .rest)))
+
+pub ussd-ends : (p : List ℕ) (g : Taken Text) → ussd p ≡ sound g → Ends (g .value .string ++ g .rest) p
+unfolding ussdContents
+ussd-ends p g e =
+    let h = ussd-held p g e in
+    through (alone mistyped (element p)) _ (h .0) (h .1) λ k u v.
+    passed (eqb (k .tag) 0x30) mistyped (sound (k .contents)) (h .0) v λ t w.
+    through (text (h .0)) _ g (h .2) λ d y z.
+    passed (row (d .rest)) mistyped (sound d) g z λ r q.
+    let x = alone-ends p _ (alone-is mistyped (element p) k u) refl in
+    further-ends _ (h .0) p (text-ends (h .0) g (y ∙ q)) (x .0, x .1 ∙ ap (λ (l : List ℕ). x .0 ++ l) (sound-inj w))

@@ -1,10 +1,11 @@
 -- What C gets to see of a component: its numbers, and its parts as places in the message.
-use Prim.Native.Nat.{ℕ, _-_}
+use Prim.Native.Nat.{ℕ, _-_, _≤_}
 use mathlib.Core.List.{List, _++_}
 use mathlib.Core.Bool.{Bool, true, false}
 use mathlib.Core.Option.{Option, none, some}
 use lib.IntN.{ℤ, pos}
 use lib.ListN.{length}
+use Rattle.octets.specs.Part.{between}
 use Rattle.octets.specs.Reader.{Taken}
 use Rattle.parameters.specs.Parameter.{Text}
 use Rattle.components.specs.Component.{Component, invoke, result, error, reject, parameterOf, invokeTag, resultTag, errorTag, rejectTag}
@@ -21,6 +22,13 @@ spanOf n octets behind = record { start = n - length behind - length octets; end
 
 abbrev pub nowhere : Span
 nowhere = record { start = 0; end = 0 }
+
+-- what stands at a place of the message
+abbrev pub standing : List ℕ → Span → List ℕ
+standing m place = between (place .start) (place .end) m
+
+abbrev pub LiesIn : List ℕ → Span → Type 0
+LiesIn m place = (place .start ≤ place .end) × (place .end ≤ length m)
 
 abbrev pub isThere : {A : Type 0} → Option A → Bool
 isThere none = false

@@ -1,2 +1,4 @@
 pub mod Paths
 pub mod OutcomeLaws
+pub mod Shown
+pub mod Stands

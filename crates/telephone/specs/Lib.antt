@@ -2,3 +2,4 @@ pub mod Outcome
 pub mod Receive
 pub mod Calls
 pub mod FromC
+pub mod Stands

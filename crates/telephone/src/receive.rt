@@ -12,11 +12,12 @@ ghost use mathlib.Core.Path.{_≡_};
 ghost use mathlib.Core.Bool.{false};
 ghost use Prim.Native.Nat.{_+_, _*_, _≤_};
 ghost use lib.ListN.{length, drop};
-ghost use Rattle.octets.specs.Part.{between};
+ghost use Rattle.octets.specs.Part.{placeAt};
 ghost use Rattle.octets.specs.Seen.{partFound, PartWithin};
 ghost use Rattle.table.specs.Table.{size, closed, withEntry};
 ghost use Rattle.deciding.specs.Seen.{toldSeen, ToldWithin, decisionSeen, DecisionWithin, isSilent, Ready};
 ghost use Rattle.telephone.specs.Receive.{act, receive};
+ghost use Rattle.telephone.specs.Stands.{IsShownParameter, parameterStart};
 ghost use Rattle.telephone.specs.FromC.{shownAs, receivedOf, withoutCause, ActedAs};
 
 // The verdict, or the refusal 27 or 28; how many octets of the reply are written; and what is shown.
@@ -146,9 +147,10 @@ pub extern "C" fn smr_receive(table: &mut [u8], message: &[u8], reply: &mut [u8]
     show(s, acted.code, acted.written, told, cause)
 }
 
-// The parameter of a shown component, as a part of the caller's own message.
+// The parameter of the component that a message shows, as a part of the caller's own message.
 pub fn shown_parameter(message: &[u8], received: Received) -> &[u8]
-    ensures { λ r. ⌜ now r ≡ between (received .shown .parameter .start) (received .shown .parameter .end) (now (message .entry)) ⌝ }
+    ensures octets { λ r. ⌜ IsShownParameter (now (message .entry)) received (now r) ⌝ }
+    ensures place { λ r. ⌜ r .ptr ≡ placeAt (parameterStart (now (message .entry)) received) (message .entry .ptr) ⌝ }
 {
     let shown = received.shown;
     let parameter = shown.parameter;

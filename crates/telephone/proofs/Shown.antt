@@ -6,24 +6,24 @@ use mathlib.Core.Bool.{Bool, true, false, cond}
 use mathlib.Core.Option.{none, some}
 use native.Mathlib.Omega.{arith}
 use borrow.Author.Tests.{ne-eqb}
-use lib.ListN.{length, getD, drop}
+use lib.ListN.{length}
 use lib.IntN.{ℤ}
-use lib.Dec.{ltb, eqb}
 use Rattle.octets.specs.Reader.{Answer, fault, sound, Taken}
 use Rattle.octets.proofs.ReaderLaws.{stays}
 use Rattle.parameters.specs.Parameter.{Text, ussd}
 use Rattle.components.specs.Component.{Component, invoke, result, error, reject, parameterOf}
 use Rattle.components.specs.Facility.{Finding, empty, shows, general, leftOver, faultyReject}
-use Rattle.messages.specs.Layout.{discriminator, value, flag}
-use Rattle.messages.specs.Scan.{information, firstTaken, Passed, nothing, another}
+use Rattle.messages.specs.Scan.{information, firstTaken}
+use Rattle.messages.specs.LaterEdition.{Passed, nothing, another}
 use Rattle.messages.proofs.ScanLaws.{information-local, information-back, taken-step}
-use Rattle.table.specs.Table.{Entry, entryAt, valid}
+use Rattle.table.specs.Table.{Entry}
 use Rattle.judging.specs.StepSix.{Judged, problem, accepted, judgeInvoke, judgeResult, judgeError}
-use Rattle.components.specs.Shows.{Shows}
-use Rattle.deciding.specs.Decision.{Decision, silent, shownBy}
-use Rattle.deciding.specs.Steps.{onJudged, isInvoke, exceptInvoke, stepSix, fiveAndSix, stepTwo, firstOctet, pickedEntry, decide}
+use Rattle.components.specs.Shows.{ShownComponent, Shows}
+use Rattle.deciding.specs.Decision.{Decision, shownBy}
+use Rattle.deciding.specs.Steps.{onJudged, isInvoke, exceptInvoke, stepSix, fiveAndSix, decide}
+use Rattle.deciding.proofs.StepLaws.{GoesOn, further, tested}
 use Rattle.components.specs.Texts.{extensible, readable, textOf}
 use Rattle.telephone.specs.Receive.{act, receive}
 
 -- in RELEASE COMPLETE, the value of the first 1C and what stands behind it
 pub first-is : {before : List ℕ} (v behind : List ℕ) → Passed 0x1C before
@@ -40,52 +40,28 @@ pub nothing-shown : {A C : Type 0} {a : A} → none ≡ some a → C
 nothing-shown e = let z : _≡_ {A = ℕ} 0 1 = cc in absurd (omega arith)
 
 -- something is shown behind a test, and nothing on its other branch
-pub held : {C : Type 0} (b : Bool) (d o : Decision) (w : Taken Component) → shownBy o ≡ none → shownBy (cond b d o) ≡ some w → (b ≡ true → shownBy d ≡ some w → C) → C
+pub held : {C : Type 0} (b : Bool) (d o : Decision) (w : ShownComponent) → shownBy o ≡ none → shownBy (cond b d o) ≡ some w → (b ≡ true → shownBy d ≡ some w → C) → C
 held true d o w n e next = next refl e
 held false d o w n e next = nothing-shown (sym n ∙ e)
 
-pub failed : {C : Type 0} (b : Bool) (o d : Decision) (w : Taken Component) → shownBy o ≡ none → shownBy (cond b o d) ≡ some w → (b ≡ false → shownBy d ≡ some w → C) → C
+pub failed : {C : Type 0} (b : Bool) (o d : Decision) (w : ShownComponent) → shownBy o ≡ none → shownBy (cond b o d) ≡ some w → (b ≡ false → shownBy d ≡ some w → C) → C
 failed true o d w n e next = nothing-shown (sym n ∙ e)
 failed false o d w n e next = next refl e
 
--- the tests that lead to step 2: of the table, of the room, and of the message's length and first octet
-pub record GoesOn (t : List ℕ) (space : ℕ) (m : List ℕ) : Type 0 where
-  pub table : valid t ≡ true
-  pub room : ltb space 12 ≡ false
-  pub most : ltb 255 (length m) ≡ false
-  pub least : ltb (length m) 2 ≡ false
-  pub protocol : eqb (discriminator (firstOctet m)) 11 ≡ true
-  pub transaction : eqb (value (firstOctet m)) 7 ≡ false
-
--- step 2 and what follows it
-abbrev pub further : List ℕ → List ℕ → Decision
-further t m = stepTwo (entryAt t (pickedEntry m)) (flag (firstOctet m)) (getD m 1 0) (drop 2 m)
-
-pub decide-shows : (t m : List ℕ) (room : ℕ) (w : Taken Component) → shownBy (decide t m room) ≡ some w → GoesOn t room m × (shownBy (further t m) ≡ some w)
-unfolding decide
+pub decide-shows : (t m : List ℕ) (room : ℕ) (w : ShownComponent) → shownBy (decide t m room) ≡ some w → GoesOn t room m × (shownBy (further t m) ≡ some w)
 decide-shows t m room w e =
-    held (valid t) _ (silent 28) w refl e λ h₁ e₁.
-    failed (ltb room 12) (silent 27) _ w refl e₁ λ h₂ e₂.
-    failed (ltb 255 (length m)) (silent 6) _ w refl e₂ λ h₃ e₃.
-    failed (ltb (length m) 2) (silent 1) _ w refl e₃ λ h₄ e₄.
-    held (eqb (discriminator (firstOctet m)) 11) _ (silent 7) w refl e₄ λ h₅ e₅.
-    failed (eqb (value (firstOctet m)) 7) (silent 1) _ w refl e₅ λ h₆ e₆.
-    (record { table = h₁; room = h₂; most = h₃; least = h₄; protocol = h₅; transaction = h₆ }, e₆)
+    tested (λ d. shownBy d ≡ some w → GoesOn t room m × (shownBy (further t m) ≡ some w)) t m room nothing-shown nothing-shown nothing-shown nothing-shown nothing-shown (λ g k. (g, k)) e
 
-pub decide-further : (t m : List ℕ) (room : ℕ) → GoesOn t room m → decide t m room ≡ further t m
-unfolding decide
-decide-further t m room h = rw (h .table, h .room, h .most, h .least, h .protocol, h .transaction)
-
-pub receive-shows : (t m b : List ℕ) (w : Taken Component) → receive t m b .shown ≡ some w → GoesOn t (length b) m × (shownBy (further t m) ≡ some w)
+pub receive-shows : (t m b : List ℕ) (w : ShownComponent) → receive t m b .shown ≡ some w → GoesOn t (length b) m × (shownBy (further t m) ≡ some w)
 unfolding receive act
 receive-shows t m b w e = decide-shows t m (length b) w e
 
 -- step 6 shows the component that it is given
-judged-shows : (v : Judged) (id : ℤ) (c : Component) (behind : List ℕ) (w : Taken Component) → shownBy (onJudged v id c behind) ≡ some w → w ≡ record { value = c; rest = behind }
+judged-shows : (v : Judged) (id : ℤ) (c : Component) (behind : List ℕ) (w : ShownComponent) → shownBy (onJudged v id c behind) ≡ some w → w ≡ record { component = c; behind = behind }
 judged-shows (problem tag number) id c behind w e = nothing-shown e
 judged-shows (accepted e) id c behind w k = sym (some-inj k)
 
-pub six-shows : (e : Entry) (c : Component) (behind : List ℕ) (w : Taken Component) → shownBy (stepSix e c behind) ≡ some w → w ≡ record { value = c; rest = behind }
+pub six-shows : (e : Entry) (c : Component) (behind : List ℕ) (w : ShownComponent) → shownBy (stepSix e c behind) ≡ some w → w ≡ record { component = c; behind = behind }
 unfolding stepSix
 six-shows e (invoke id linked operation p) behind w k = judged-shows (judgeInvoke e id linked operation p) id _ behind w k
 six-shows e (result id operation p) behind w k = judged-shows (judgeResult e id operation p) id _ behind w k
@@ -93,21 +69,21 @@ six-shows e (error id code p) behind w k = judged-shows (judgeError e id code) i
 six-shows e (reject id tag number) behind w k = sym (some-inj k)
 
 -- what is shown was found in the Facility value
-pub five-shows : (e : Entry) (f : Finding) (behind : List ℕ) (c : Component) (r : List ℕ) → shownBy (fiveAndSix e f behind) ≡ some (record { value = c; rest = r })
-    → (f ≡ shows c) × (shownBy (stepSix e c behind) ≡ some (record { value = c; rest = r }))
+pub five-shows : (e : Entry) (f : Finding) (behind : List ℕ) (c : Component) (r : List ℕ) → shownBy (fiveAndSix e f behind) ≡ some (record { component = c; behind = r })
+    → (f ≡ shows c) × (shownBy (stepSix e c behind) ≡ some (record { component = c; behind = r }))
 unfolding fiveAndSix
 five-shows e empty behind c r k = nothing-shown k
-five-shows e (shows d) behind c r k = let q : c ≡ d = ap (λ (w : Taken Component). w .value) (six-shows e d behind _ k) in (ap shows (sym q), rw q (rw q at k))
+five-shows e (shows d) behind c r k = let q : c ≡ d = ap (λ (w : ShownComponent). w .component) (six-shows e d behind _ k) in (ap shows (sym q), rw q (rw q at k))
 five-shows e (general number id) behind c r k = nothing-shown k
 five-shows e leftOver behind c r k = nothing-shown k
 five-shows e faultyReject behind c r k = nothing-shown k
 
 -- in a release, what is shown is no Invoke
-pub except-shows : (o : Shows) (w : Taken Component) → exceptInvoke o ≡ some w → (o ≡ some w) × (isInvoke (w .value) ≡ false)
+pub except-shows : (o : Shows) (w : ShownComponent) → exceptInvoke o ≡ some w → (o ≡ some w) × (isInvoke (w .component) ≡ false)
 except-shows none w k = nothing-shown k
-except-shows (some v) w k = go (isInvoke (v .value)) refl k
+except-shows (some v) w k = go (isInvoke (v .component)) refl k
   where
-    go : (b : Bool) → isInvoke (v .value) ≡ b → cond b none (some v) ≡ some w → (some v ≡ some w) × (isInvoke (w .value) ≡ false)
+    go : (b : Bool) → isInvoke (v .component) ≡ b → cond b none (some v) ≡ some w → (some v ≡ some w) × (isInvoke (w .component) ≡ false)
     go true i h = nothing-shown h
     go false i h = let z : v ≡ w = cc in (h, rw (← z) i)
 
