@@ -63,7 +63,7 @@ module _ (e : Entry) (flag : ℕ) (s : List ℕ) where
       go false false false p q r = sym (type-unknown e flag type s (rw (p, q, r)))
 
 -- whatever holds of each way that a type can go holds of where it goes
-module _ (P : Decision → Type 0) (e : Entry) (flag type : ℕ) (s : List ℕ) (p1 : P (silent 1)) (onCause : (number : ℕ) → P (withCause number))
+module _ (P : Decision → Type 0) (e : Entry) (flag type : ℕ) (s : List ℕ) (p1 : P (silent 1)) (p81 : P (withCause 81)) (p97 : P (withCause 97)) (p98 : P (withCause 98))
     (onReleased : type ≡ releaseType → e .isOpen ≡ true → P (onRelease e s))
     (onFacility : type ≡ facilityType → e .isOpen ≡ true → P (fourToSix e facilityType s))
     (onRegister : type ≡ registerType → e .isOpen ≡ false → P (fourToSix e registerType s)) where
@@ -75,10 +75,10 @@ module _ (P : Decision → Type 0) (e : Entry) (flag type : ℕ) (s : List ℕ) 
   unfolding onType
   by-type =
       either (eqb type releaseType) _ _ (λ a. either (e .isOpen) _ _ (λ o. onReleased (eqb-true type releaseType a) o) (λ o. p1))
-      (λ a. either (eqb type facilityType) _ _ (λ b. either (e .isOpen) _ _ (λ o. onFacility (eqb-true type facilityType b) o) (λ o. onCause 81))
+      (λ a. either (eqb type facilityType) _ _ (λ b. either (e .isOpen) _ _ (λ o. onFacility (eqb-true type facilityType b) o) (λ o. p81))
       (λ b. either (eqb type registerType) _ _
-      (λ c. either (e .isOpen) _ _ (λ o. onCause 98) (λ o. either (eqb flag 1) _ _ (λ f. p1) (λ f. onRegister (eqb-true type registerType c) o)))
-      (λ c. onCause 97)))
+      (λ c. either (e .isOpen) _ _ (λ o. p98) (λ o. either (eqb flag 1) _ _ (λ f. p1) (λ f. onRegister (eqb-true type registerType c) o)))
+      (λ c. p97)))
 
 -- the tests that lead to the type: of the table, of the room, and of the message's length and first octet
 pub record GoesOn (t : List ℕ) (space : ℕ) (m : List ℕ) : Type 0 where

@@ -13,6 +13,7 @@ use borrow.Author.Tests.{lt-leb, leb-true, ne-eqb, eqb-true, eqb-false}
 use Rattle.octets.specs.Reader.{Answer, fault, sound, Taken, took, seq, done, need, octet, front, isEmpty}
 use Rattle.octets.proofs.ReaderLaws.{sound-inj, not-sound, through, passed, Local, IsLocal, done-local, seq-local, need-local, cond-local, octet-local, front-local, front-back, stays, either, front-was}
 use Rattle.octets.proofs.EndLaws.{Ends, further-ends}
+use Rattle.octets.proofs.FaultLaws.{Faults, then-faults, check-faults, read-faults, octet-faults, front-faults}
 use Rattle.messages.specs.Layout.{mandatoryMissing, registerType, facilityType, sized, mandatory}
 use Rattle.messages.specs.Scan.{Information, absent, cut, information, onward, clearOf, clear, required, wanted, firstOf, firstTaken, contentsOf, firstWhole}
 use Rattle.messages.specs.LaterEdition.{Passed, nothing, another}
@@ -351,3 +352,16 @@ laid-ends type v r s e = go (eqb type registerType) e
     go : (b : Bool) → s ≡ cond b (0x1C ∷ length v ∷ (v ++ r)) (length v ∷ (v ++ r)) → Ends (v ++ r) s
     go true h = (0x1C ∷ length v ∷ [], h)
     go false h = (length v ∷ [], h)
+
+-- step 4 has one cause
+pub required-faults : (P : ℕ → Type 0) (type : ℕ) (s : List ℕ) → P mandatoryMissing → Faults P (required type s)
+unfolding required mandatory sized
+required-faults P type s h =
+    then-faults P (mandatory type s) _
+    (read-faults P (eqb type registerType) _ _ s
+    (then-faults P (octet mandatoryMissing s) _ (octet-faults P mandatoryMissing s h) λ i. check-faults P (eqb (i .value) 0x1C) mandatoryMissing _ h (sized-faults (i .rest)))
+    (sized-faults s))
+    (λ g. check-faults P (clear (g .rest)) mandatoryMissing (sound g) h tt)
+  where
+    sized-faults : (r : List ℕ) → Faults P (sized r)
+    sized-faults r = then-faults P (octet mandatoryMissing r) _ (octet-faults P mandatoryMissing r h) λ n. front-faults P mandatoryMissing (n .value) (n .rest) h

@@ -5,3 +5,4 @@ pub mod ReaderLaws
 pub mod TestLaws
 pub mod Determined
 pub mod EndLaws
+pub mod FaultLaws

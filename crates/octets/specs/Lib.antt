@@ -4,3 +4,4 @@ pub mod Splice
 pub mod Reader
 pub mod Seen
 pub mod Unless
+pub mod OneAnswer

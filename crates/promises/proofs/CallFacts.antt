@@ -1,7 +1,7 @@
 -- What is known of every local call: it is refused with one of 01's numbers, or it sends a message that fits and changes the
 -- entry that it names to one that an image can hold.
 use Prim.Native.Nat.{ℕ, _+_, _≤_, _<_}
-use mathlib.Core.Path.{_≡_, refl, sym, _∙_}
+use mathlib.Core.Path.{_≡_, refl, sym, ap, _∙_}
 use mathlib.Core.List.{List, [], _∷_, _++_}
 use mathlib.Core.Bool.{Bool, true, false, cond, not, _&&_, false≢true}
 use mathlib.Core.Option.{Option, none, some}
@@ -11,6 +11,7 @@ use lib.ListN.{length}
 use lib.Dec.{leb, eqb}
 use borrow.Author.Tests.{leb-true}
 use Rattle.octets.specs.Reader.{Answer, fault, sound, andThen, check}
+use Rattle.octets.proofs.ReaderLaws.{sound-inj, not-sound, through, passed}
 use Rattle.codes.specs.Operations.{begins, waits}
 use Rattle.codes.specs.Errors.{listed}
 use Rattle.parameters.specs.Suits.{suits, noneOrOne, InvokeWritten, ResultWritten}
@@ -149,3 +150,15 @@ module _ (t : List ℕ) (room : ℕ) where
         fine-check t room _ (valid t) 28 _ refl λ v.
         fine-transaction _ λ k e l q.
         fine-fitting t room _ _ v e l closed-holds
+
+-- an open transaction is the entry that its flag and value name
+pub transaction-is : (t : List ℕ) (flag value k : ℕ) → transaction t flag value ≡ sound k → named flag value ≡ some k
+unfolding transaction
+transaction-is t flag value k e =
+    through (orRefused 22 (named flag value)) _ k e λ j a b.
+    passed (entryAt t j .isOpen) 22 (sound j) k b λ o c.
+    named-of (named flag value) j a ∙ ap some (sound-inj c)
+  where
+    named-of : (o : Option ℕ) (j : ℕ) → orRefused 22 o ≡ sound j → o ≡ some j
+    named-of none j h = not-sound h
+    named-of (some i) j h = ap some (sound-inj h)

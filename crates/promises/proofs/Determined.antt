@@ -1,16 +1,17 @@
 -- The contracts leave one answer each.
 use Prim.Native.Nat.{ℕ, _-_, _≤_}
 use mathlib.Core.Path.{_≡_, refl, sym, ap, _∙_}
-use mathlib.Core.List.{List}
-use mathlib.Core.Bool.{Bool}
+use mathlib.Core.List.{List, []}
+use mathlib.Core.Bool.{Bool, true, _||_}
+use lib.Dec.{eqb}
 use mathlib.Core.Option.{Option, none, some}
 use native.Mathlib.Omega.{arith}
 use lib.IntN.{ℤ}
 use lib.ListN.{length, drop, length-drop}
 use Rattle.octets.specs.Reader.{Answer, fault, sound, Taken}
 use Rattle.octets.proofs.ReaderLaws.{sound-inj}
-use Rattle.parameters.specs.Seen.{TextSeen}
-use Rattle.parameters.specs.declared.suits.Suited.{Suited}
+use Rattle.parameters.specs.Seen.{Weighs}
+use Rattle.parameters.specs.Suits.{isUssd, suits, InvokeReceived, ResultReceived}
 use Rattle.places.specs.Places.{CalledPlaces, Coded}
 use Rattle.places.specs.Seen.{idSeen, singleSeen, SingleWithin, callsSeen, CallsWithin, lastSeen, last, codedSeen, CodedWithin, rejectedSeen, RejectedWithin}
 use Rattle.places.specs.declared.Id.{Id}
@@ -19,32 +20,37 @@ use Rattle.places.specs.declared.Calls.{Calls}
 use Rattle.places.specs.declared.Code.{Code}
 use Rattle.places.specs.declared.Last.{Last}
 use Rattle.places.specs.declared.Rejected.{Rejected}
-use Rattle.components.specs.Component.{Component}
+use Rattle.components.specs.Component.{error}
 use Rattle.components.specs.Facility.{shows}
 use Rattle.components.specs.Seen.{kindSeen, KindWithin}
 use Rattle.components.specs.declared.kinds.Kind.{Kind}
 use Rattle.components.specs.declared.shown.Shown.{Shown}
 use Rattle.components.specs.declared.facility.Reading.{Reading}
 use Rattle.elements.proofs.Determined.{length-determined, found-determined}
-use Rattle.parameters.proofs.Determined.{contents-determined, octets-determined, ussd-determined}
+use Rattle.parameters.proofs.Determined.{contents-determined, string-determined, ussd-determined}
 use Rattle.components.proofs.Determined.{reading-determined}
-use Rattle.messages.proofs.Determined.{item-determined, body-determined, part-determined}
+use Rattle.octets.proofs.Determined.{found-determined as part-determined, read-determined}
+use Rattle.messages.specs.Layout.{mandatoryMissing}
+use Rattle.messages.proofs.Determined.{item-determined, type-determined}
 use Rattle.table.proofs.Determined.{slot-determined, named-determined}
-use Rattle.judging.proofs.Determined.{verdict-determined}
+use Rattle.judging.proofs.Determined.{judgement-determined}
 use Rattle.deciding.proofs.Determined.{decision-determined}
 use Rattle.calling.proofs.Determined.{call-determined}
-use Rattle.promises.specs.Determined.{OneAnswer, Exact, Says, Means, Determined}
+use Rattle.calling.specs.Calls.{Sending}
+use Rattle.calling.specs.Seen.{DecidesCall}
+use Rattle.octets.specs.OneAnswer.{OneAnswer, Exact}
+use Rattle.promises.specs.Determined.{Elements, Parameters, InPlaces, Components, Messages, Transactions, Decisions, Determined}
 
 pub exact : Exact
 exact A definition r q e f = e ∙ sym f
 
 -- the one law: where two answers that say the same are equal, a promise of what is said leaves one
-by-saying : {A B : Type 0} (seen : List ℕ → A → B) (within : List ℕ → A → Type 0)
-    → ((s : List ℕ) (r q : A) → within s r → within s q → seen s r ≡ seen s q → r ≡ q) → Says seen within
-by-saying seen within same s definition r q e f = same s r q (e .1) (f .1) (e .0 ∙ sym (f .0))
+by-saying : {A B : Type 0} (seen : A → B) (within : A → Type 0) (definition : B) → ((r q : A) → within r → within q → seen r ≡ seen q → r ≡ q)
+    → OneAnswer (λ (r : A). (seen r ≡ definition) × within r)
+by-saying seen within definition same r q e f = same r q (e .1) (f .1) (e .0 ∙ sym (f .0))
 
-by-meaning : {A B : Type 0} (seen : A → B) → ((r q : A) → seen r ≡ seen q → r ≡ q) → Means seen
-by-meaning seen same definition r q e f = same r q (e ∙ sym f)
+by-meaning : {A B : Type 0} (seen : A → B) (definition : B) → ((r q : A) → seen r ≡ seen q → r ≡ q) → OneAnswer (λ (r : A). seen r ≡ definition)
+by-meaning seen definition same r q e f = same r q (e ∙ sym f)
 
 -- a place is told by what is left behind it
 same-end : (s : List ℕ) (i j : ℕ) → i ≤ length s → j ≤ length s → drop i s ≡ drop j s → i ≡ j
@@ -109,35 +115,75 @@ kind-determined s (Kind.Fault n) (Kind.Is y) a b e = cc
 kind-determined s (Kind.Is x) (Kind.Fault m) a b e = cc
 kind-determined s (Kind.Is x) (Kind.Is y) a b e = ap Kind.Is (shows-inj (reading-determined s (Reading.Shows x) (Reading.Shows y) a b (ap shows (sound-inj e))))
 
-suited-determined : (sought : Bool) (p : List ℕ) (definition : Bool) → OneAnswer (λ (r : Suited). (r .suited ≡ definition) × TextSeen sought p (r .text))
-suited-determined sought p definition r q e f =
+weighed : (suited sought : Bool) (p : List ℕ) → OneAnswer (Weighs suited sought p)
+weighed suited sought p r q e f =
     let a = e .0 ∙ sym (f .0) in
     let b = ussd-determined p (r .text) (q .text) (e .1 .1) (f .1 .1) (e .1 .0 ∙ sym (f .1 .0)) in
     λ n. record { suited = a n; text = b n }
 
-pub determined : Determined
-determined = (
-  (by-saying _ _ length-determined, by-saying _ _ found-determined),
+called : (definition : Answer Sending) (message : ℕ → ℕ → List ℕ) (named : ℕ → ℕ) (table : List ℕ) (room flag value : ℕ)
+    → OneAnswer (DecidesCall definition message named table room flag value)
+called definition message named table room flag value r q e f = call-determined message named r q (e .0 ∙ sym (f .0)) (e .1 .1) (f .1 .1)
+
+elements : Elements
+elements = (λ s. by-saying _ _ _ (length-determined s), λ s. by-saying _ _ _ (found-determined s))
+
+parameters : Parameters
+parameters = (
+  (λ tag p. by-saying _ _ _ (contents-determined p)),
   (
+    (λ low high s. by-saying _ _ _ (string-determined low s)),
+    ((λ s. by-saying _ _ _ (ussd-determined s)), ((λ p. by-saying _ _ _ (ussd-determined p)), ((λ p. weighed (isUssd p) true p), ((λ o p. weighed (suits InvokeReceived o p) (eqb o 60 || eqb o 61) p), λ o p. weighed (suits ResultReceived o p) (eqb o 59) p)))),
+  ),
+)
+
+in-places : InPlaces
+in-places = (
+  (λ tag s. by-saying _ _ _ (single-determined s)),
+  ((λ s. by-saying _ _ _ (calls-determined s)), ((λ s. by-saying _ _ _ (coded-determined s)), ((λ s. by-saying _ _ _ (rejected-determined s)), λ s. by-meaning _ _ (last-determined s)))),
+)
+
+components : Components
+components = (λ definition s. by-saying _ _ _ (kind-determined s), λ definition s. by-saying _ _ _ (reading-determined s))
+
+messages : Messages
+messages = (
+  (λ octet. by-meaning _ _ type-determined),
+  (
+    (λ s. by-saying _ _ _ (item-determined s)),
     (
-      (by-saying _ _ contents-determined, ((λ low. by-saying _ _ (λ s r q a b e. octets-determined s low r q a b e)), by-saying _ _ ussd-determined)),
-      suited-determined,
-    ),
-    (
+      (λ s. by-saying _ _ _ (read-determined mandatoryMissing s)),
       (
-        by-saying _ _ single-determined,
-        (by-saying _ _ calls-determined, (by-saying _ _ coded-determined, (by-saying _ _ rejected-determined, λ s. by-meaning _ (last-determined s)))),
-      ),
-      (
-        (by-saying _ _ kind-determined, by-saying _ _ reading-determined),
-        (
-          (by-saying _ _ item-determined, (by-saying _ _ body-determined, by-saying _ _ part-determined)),
-          (
-            (by-meaning _ slot-determined, (by-meaning _ named-determined, λ c definition r q e f. verdict-determined c r q (e .1) (f .1) (e .0 ∙ sym (f .0)))),
-            (by-saying _ _ decision-determined, λ message named definition r q e f. call-determined message named r q (e .0 ∙ sym (f .0)) (e .1) (f .1)),
-          ),
-        ),
+        (λ type s. by-saying _ _ _ (read-determined mandatoryMissing s)),
+        ((λ type s. by-saying _ _ _ (read-determined mandatoryMissing s)), λ identifier s. by-saying _ _ _ (part-determined s)),
       ),
     ),
   ),
 )
+
+transactions : Transactions
+transactions = (
+  (λ table k. by-meaning _ _ slot-determined),
+  (
+    (λ table. by-meaning _ _ named-determined),
+    (
+      (λ flag value. by-meaning _ _ named-determined),
+      ((λ definition c. by-saying _ _ _ (judgement-determined c)), λ definition id code r q e f. judgement-determined (error id code []) r q (e .1 []) (f .1 []) (e .0 ∙ sym (f .0))),
+    ),
+  ),
+)
+
+decisions : Decisions
+decisions = (
+  (λ definition s. by-saying _ _ _ (decision-determined s)),
+  (
+    (λ table p room operation id. called _ _ _ table room 1 0),
+    (
+      (λ table p room flag value operation id. called _ _ _ table room flag value),
+      ((λ table p room flag value id. called _ _ _ table room flag value), ((λ table p room flag value code id. called _ _ _ table room flag value), λ table room flag value. called _ _ _ table room flag value)),
+    ),
+  ),
+)
+
+pub determined : Determined
+determined = (elements, (parameters, (in-places, (components, (messages, (transactions, decisions))))))

@@ -1,37 +1,69 @@
--- The two later editions of the document, piece by piece.
-use Prim.Native.Nat.{ℕ}
+-- Later editions piece by piece, and the messages that show a text, by computation.
 use mathlib.Core.Path.{refl}
 use mathlib.Core.List.{List, [], _∷_, _++_}
-use Rattle.elements.specs.Element.{lengthOf, shortest}
-use Rattle.components.specs.LaterEdition.{LaterFacility, inInvoke}
-use Rattle.promises.specs.LaterEdition.{LaterEdition, inRegister}
-use Rattle.promises.specs.Worked.{parameter}
-use Rattle.promises.specs.Editions.{appended, string, longParameter, Editions}
+use Rattle.components.specs.LaterEdition.{inInvoke, inResult}
+use Rattle.messages.specs.LaterEdition.{nothing}
+use Rattle.promises.specs.LaterEdition.{inRegister, inFacility, inRelease}
+use Rattle.promises.specs.Editions.{appended, laterParameter, string, Instances, Editions}
+use Rattle.calling.specs.Calls.{transaction as calling-transaction, fitting as calling-fitting, sendBegin as calling-begin, sendResult as calling-sendResult}
+use Rattle.codes.specs.Errors.{listed as codes-listed}
+use Rattle.components.specs.Written.{contents as components-contents, answer as components-answer}
+use Rattle.components.specs.Component.{invokeOf as components-invokeOf, resultOf as components-resultOf, errorOf as components-errorOf, rejectOf as components-rejectOf}
+use Rattle.components.specs.Facility.{afterTag as components-afterTag, component as components-component, inside as components-inside, facility as components-facility}
+use Rattle.deciding.specs.Steps.{stepSix as deciding-stepSix, fiveAndSix as deciding-fiveAndSix, fourToSix as deciding-fourToSix, onRelease as deciding-onRelease, pickedEntry as deciding-pickedEntry, replyFirst as deciding-replyFirst, decide as deciding-decide}
+use Rattle.elements.specs.Element.{lengthOf as elements-lengthOf, element as elements-element, rowOf as elements-rowOf, row as elements-row, shortest as elements-shortest}
+use Rattle.judging.specs.StepSix.{among as judging-among, full as judging-full, operationOf as judging-operationOf, without as judging-without, linkedProblem as judging-linkedProblem, judgeInvoke as judging-judgeInvoke, isOurs as judging-isOurs, judgeResult as judging-judgeResult, judgeError as judging-judgeError}
+use Rattle.messages.specs.Layout.{sized as messages-sized, mandatory as messages-mandatory, register as messages-register, facilityMessage as messages-facilityMessage, releaseFacility as messages-releaseFacility}
+use Rattle.messages.specs.Scan.{information as messages-information, clearOf as messages-clearOf, clear as messages-clear, required as messages-required, firstOf as messages-firstOf, firstTaken as messages-firstTaken}
+use Rattle.octets.specs.Splice.{splice as octets-splice}
+use Rattle.parameters.specs.Suits.{suitsInvokeReceived as parameters-suitsInvokeReceived, suitsResultReceived as parameters-suitsResultReceived, suitsInvokeWritten as parameters-suitsInvokeWritten, suitsResultWritten as parameters-suitsResultWritten, suits as parameters-suits}
+use Rattle.parameters.specs.Parameter.{string as parameters-string, text as parameters-text, ussdContents as parameters-ussdContents, ussd as parameters-ussd, ssForBsContents as parameters-ssForBsContents}
+use Rattle.places.specs.Places.{single as places-single, parameter as places-parameter, called as places-called, coded as places-coded, rejected as places-rejected}
+use Rattle.components.specs.Texts.{textOf as components-textOf}
+use Rattle.table.specs.Table.{entryOf as table-entryOf, soundImage as table-soundImage, entryAt as table-entryAt, soundEntries as table-soundEntries, valid as table-valid, stateOf as table-stateOf, entryOctets as table-entryOctets, withEntry as table-withEntry, lowestFrom as table-lowestFrom, lowestClosed as table-lowestClosed}
+use Rattle.telephone.specs.Receive.{act as telephone-act, receive as telephone-receive}
+use Rattle.telephone.specs.Calls.{begin as telephone-begin, result as telephone-result}
+use Rattle.showing.specs.Views.{componentView as showing-componentView, textView as showing-textView, causeView as showing-causeView}
+
+instances : Instances
+unfolding calling-transaction calling-fitting calling-begin calling-sendResult codes-listed components-contents components-answer components-invokeOf components-resultOf components-errorOf components-rejectOf components-afterTag components-component components-inside components-facility deciding-stepSix deciding-fiveAndSix deciding-fourToSix deciding-onRelease deciding-pickedEntry deciding-replyFirst deciding-decide elements-lengthOf elements-element elements-rowOf elements-row elements-shortest judging-among judging-full judging-operationOf judging-without judging-linkedProblem judging-judgeInvoke judging-isOurs judging-judgeResult judging-judgeError messages-sized messages-mandatory messages-register messages-facilityMessage messages-releaseFacility messages-information messages-clearOf messages-clear messages-required messages-firstOf messages-firstTaken octets-splice parameters-suitsInvokeReceived parameters-suitsResultReceived parameters-suitsInvokeWritten parameters-suitsResultWritten parameters-suits parameters-string parameters-text parameters-ussdContents parameters-ussd parameters-ssForBsContents places-single places-parameter places-called places-coded places-rejected components-textOf table-entryOf table-soundImage table-entryAt table-soundEntries table-valid table-stateOf table-entryOctets table-withEntry table-lowestFrom table-lowestClosed telephone-act telephone-receive telephone-begin telephone-result showing-componentView showing-textView showing-causeView
+instances = (
+  record { behind = []; shown = refl; text = refl },
+  (record { behind = []; shown = refl; text = refl }, (record { behind = []; shown = refl; text = refl }, record { behind = []; shown = refl; text = refl })),
+)
 
 pub editions : Editions
-unfolding lengthOf shortest
+unfolding elements-lengthOf elements-element elements-shortest places-single
 editions = (
   record {
-    parameter = 0x30 ∷ 0x09 ∷ 0x04 ∷ 0x01 ∷ 0x0F ∷ 0x04 ∷ 0x01 ∷ 0x41 ∷ appended;
-    becomes =
-        record {
-          contents = 0x04 ∷ 0x01 ∷ 0x0F ∷ 0x04 ∷ 0x01 ∷ 0x41 ∷ [];
-          was = record { form = 0x06 ∷ []; reads = refl; is = refl };
-          becomes = refl;
-        };
+    parameter = laterParameter;
+    becomes = record { contents = 0x04 ∷ 0x01 ∷ 0x0F ∷ 0x04 ∷ 0x01 ∷ 0x41 ∷ []; was = record { form = 0x06 ∷ []; reads = refl; is = refl }; becomes = refl };
     around = inRegister 0x0B (inInvoke (0x02 ∷ 0x01 ∷ 0x05 ∷ 0x02 ∷ 0x01 ∷ 0x3C ∷ []) (record { form = 0x0E ∷ []; reads = refl; is = refl })) [];
   },
   (
     record {
-      parameter = 0x30 ∷ 0x81 ∷ 0x80 ∷ 0x04 ∷ 0x01 ∷ 0x0F ∷ 0x04 ∷ 0x78 ∷ (string ++ appended);
-      becomes =
-          record {
-            contents = 0x04 ∷ 0x01 ∷ 0x0F ∷ 0x04 ∷ 0x78 ∷ string;
-            was = record { form = 0x7D ∷ []; reads = refl; is = refl };
-            becomes = refl;
-          };
-      around = inRegister 0x0B (inInvoke (0x02 ∷ 0x01 ∷ 0x05 ∷ 0x02 ∷ 0x01 ∷ 0x3C ∷ []) (record { form = 0x81 ∷ 0x85 ∷ []; reads = refl; is = refl })) [];
+      parameter = laterParameter;
+      becomes = record { contents = 0x04 ∷ 0x01 ∷ 0x0F ∷ 0x04 ∷ 0x01 ∷ 0x41 ∷ []; was = record { form = 0x06 ∷ []; reads = refl; is = refl }; becomes = refl };
+      around = inFacility 0x0B (inInvoke (0x02 ∷ 0x01 ∷ 0x07 ∷ 0x02 ∷ 0x01 ∷ 0x3D ∷ []) (record { form = 0x0E ∷ []; reads = refl; is = refl })) [];
     },
-    (refl, refl),
+    (
+      record {
+        parameter = laterParameter;
+        becomes = record { contents = 0x04 ∷ 0x01 ∷ 0x0F ∷ 0x04 ∷ 0x01 ∷ 0x41 ∷ []; was = record { form = 0x06 ∷ []; reads = refl; is = refl }; becomes = refl };
+        around =
+            inRelease 0x8B nothing
+            (inResult (0x02 ∷ 0x01 ∷ 0x01 ∷ []) 0x01 (0x02 ∷ 0x01 ∷ 0x3B ∷ []) (0x30 ∷ 0x0B ∷ 0x02 ∷ 0x01 ∷ 0x3B ∷ 0x30 ∷ 0x06 ∷ 0x04 ∷ 0x01 ∷ 0x0F ∷ 0x04 ∷ 0x01 ∷ 0x41 ∷ []) refl
+            (record { form = 0x0B ∷ []; reads = refl; is = refl }) (record { form = 0x10 ∷ []; reads = refl; is = refl }))
+            [];
+      },
+      (
+        record {
+          parameter = 0x30 ∷ 0x81 ∷ 0x80 ∷ 0x04 ∷ 0x01 ∷ 0x0F ∷ 0x04 ∷ 0x78 ∷ (string ++ appended);
+          becomes = record { contents = 0x04 ∷ 0x01 ∷ 0x0F ∷ 0x04 ∷ 0x78 ∷ string; was = record { form = 0x7D ∷ []; reads = refl; is = refl }; becomes = refl };
+          around = inRegister 0x0B (inInvoke (0x02 ∷ 0x01 ∷ 0x05 ∷ 0x02 ∷ 0x01 ∷ 0x3C ∷ []) (record { form = 0x81 ∷ 0x85 ∷ []; reads = refl; is = refl })) [];
+        },
+        (refl, (refl, instances)),
+      ),
+    ),
   ),
 )

@@ -2,63 +2,36 @@
 use Prim.Native.Nat.{ℕ}
 use mathlib.Core.Path.{_≡_, refl, sym, ap, _∙_, subst}
 use mathlib.Core.List.{List, [], _∷_, _++_, append-assoc, append-nil}
-use mathlib.Core.Bool.{Bool, true, false, cond, not, _&&_, false≢true}
+use mathlib.Core.Bool.{true, false, false≢true}
 use mathlib.Core.Option.{Option, none, some}
 use native.Mathlib.Omega.{arith}
-use borrow.Author.Tests.{leb-true, eqb-true}
-use lib.ListN.{length, getD, take, drop, take-append-drop}
-use lib.Seq.{length-take-le}
+use borrow.Author.Tests.{eqb-true}
+use lib.ListN.{length}
 use lib.IntN.{ℤ}
-use lib.Dec.{leb, eqb}
-use Rattle.octets.specs.Reader.{Answer, fault, sound, Taken, took, front, isEmpty, alone}
-use Rattle.octets.proofs.ReaderLaws.{sound-inj, not-sound, through, passed, empty-is, alone-is}
-use Rattle.elements.specs.Element.{refusedTag, unreadable, lengthOf, Element, element, written}
-use Rattle.elements.proofs.ElementLaws.{length-local}
+use lib.Dec.{eqb}
+use Rattle.octets.specs.Reader.{Answer, fault, sound, Taken, took, isEmpty, alone}
+use Rattle.octets.proofs.ReaderLaws.{sound-inj, through, passed, empty-is, alone-is, branch}
+use Rattle.elements.specs.Element.{element, written}
 use Rattle.codes.specs.Ids.{idOf}
 use Rattle.codes.specs.Problems.{problemTag}
-use Rattle.places.specs.Places.{misplaced, single, parameter, called, Coded, coded, rejected}
+use Rattle.places.specs.Places.{misplaced, single, parameter, called, coded, rejected}
 use Rattle.parameters.specs.Parameter.{Text, mistyped, ussd}
 use Rattle.parameters.proofs.ParameterLaws.{ussd-held}
 use Rattle.components.specs.Component.{Component, parameterOf, invokeTag, resultTag, rejectTag, invokeOf, resultOf, errorOf, rejectOf}
-use Rattle.components.specs.Facility.{Finding, empty, shows, general, leftOver, faultyReject, afterTag, component, inside, outer, facility}
+use Rattle.components.specs.Facility.{shows, afterTag, component, facility}
 use Rattle.components.specs.LaterEdition.{Encloses, LaterParameter, LaterFacility, inInvoke, inResult}
-use Rattle.components.proofs.LaterLaws.{single-local, called-local, shown-was, parameter-was}
-use Rattle.messages.specs.Layout.{mandatoryMissing, registerType, facilityType, releaseType, mandatory}
-use Rattle.messages.specs.declared.layout.MessageType.the-variants.{ReleaseComplete, Facility, Register, Unknown}
-use Rattle.messages.specs.Scan.{clear, required, firstTaken, firstWhole, contentsOf}
-use Rattle.messages.proofs.ScanLaws.{laid, mandatory-is, first-found}
-use Rattle.table.specs.Table.{Entry}
-use Rattle.deciding.specs.Decision.{silent, withCause, shownBy}
-use Rattle.deciding.specs.Steps.{onRequired, fourToSix, fiveAndSix, inRelease as shownInRelease, onRelease, byType, stepTwo}
 use Rattle.components.specs.Texts.{extensible}
+use Rattle.components.proofs.LaterLaws.{single-local, called-local, parameter-was}
+use Rattle.components.proofs.Was.{encloses-of, facility-was, coded-was}
+use Rattle.messages.specs.Layout.{registerType, facilityType, releaseType}
+use Rattle.messages.specs.Scan.{required, firstTaken, firstWhole, contentsOf}
+use Rattle.messages.proofs.ScanLaws.{laid, required-was, first-found}
+use Rattle.table.specs.Table.{Entry}
+use Rattle.deciding.specs.Decision.{shownBy}
+use Rattle.deciding.specs.Steps.{stepFour, fourToSix, fiveAndSix, inRelease as shownInRelease, onRelease}
+use Rattle.deciding.proofs.StepLaws.{onType, by-type, GoesOn, further}
+use Rattle.telephone.proofs.Shown.{nothing-shown, receive-shows, five-shows, except-shows, text-is}
 use Rattle.promises.specs.LaterEdition.{LaterMessage, inRegister, inFacility, inRelease, Exists}
-use Rattle.promises.proofs.Shown.{nothing-shown, held, failed, GoesOn, further, receive-shows, five-shows, except-shows, text-is}
-
-front-was : (n k : ℕ) (s : List ℕ) (g : Taken (List ℕ)) → front n k s ≡ sound g → (s ≡ g .value ++ g .rest) × (length (g .value) ≡ k)
-front-was n k s g e =
-    passed (leb k (length s)) n (took (take k s) (drop k s)) g e λ t r.
-    rw (← sound-inj r) (sym (take-append-drop k s), length-take-le k s (leb-true k (length s) t))
-
--- an element that was read alone encloses its contents
-encloses-of : (tag : ℕ) (contents s : List ℕ) → element s ≡ took (record { tag = tag; contents = contents }) [] → Encloses tag contents s
-unfolding element
-encloses-of tag contents [] e = not-sound e
-encloses-of tag contents (a ∷ s) e =
-    passed (not (refusedTag a)) unreadable _ _ e λ n h.
-    through (lengthOf s) _ _ h λ k u v.
-    through (front unreadable (k .value) (k .rest)) _ _ v λ f y z.
-    let l = length-local s k u in
-    let w = front-was unreadable (k .value) (k .rest) f y in
-    let d = sound-inj z in
-    let t : a ≡ tag = ap (λ (g : Taken Element). g .value .tag) d in
-    let c : f .value ≡ contents = ap (λ (g : Taken Element). g .value .contents) d in
-    let r : f .rest ≡ [] = ap (λ (g : Taken Element). g .rest) d in
-    let q : s ≡ l .taken ++ contents = l .split ∙ ap (λ (x : List ℕ). l .taken ++ x) (w .0 ∙ (λ i. c i ++ r i) ∙ append-nil contents) in
-    record {
-      form = l .taken;
-      reads = sym (ap lengthOf (append-nil (l .taken))) ∙ l .again [] ∙ ap (λ (x : ℕ). took x []) (sym (w .1) ∙ ap length c);
-      is = λ i. t i ∷ q i;
-    }
 
 -- the parameter of a text is a 30
 parameter-exists : (p x : List ℕ) (g : Taken Text) → ussd p ≡ sound g → (q : List ℕ) × LaterParameter p x q
@@ -69,58 +42,8 @@ parameter-exists p x g e =
     let y : element p ≡ took (record { tag = 0x30; contents = h .0 }) [] = alone-is mistyped (element p) k u ∙ λ i. took (record { tag = eqb-true (k .tag) 0x30 t i; contents = sound-inj w i }) [] in
     (written 0x30 (h .0 ++ x), record { contents = h .0; was = encloses-of 0x30 (h .0) p y; becomes = refl })
 
--- only one kind of finding is a component
-abbrev isShown : Finding → Bool
-isShown empty = false
-isShown (shows c) = true
-isShown (general number id) = false
-isShown leftOver = false
-isShown faultyReject = false
-
-not-shown : {C : Type 0} {f : Finding} (c : Component) → isShown f ≡ false → f ≡ shows c → C
-not-shown c h e = absurd (false≢true (sym h ∙ ap isShown e))
-
--- a Facility value that shows a component is one element, and its contents are the component's
-facility-was : {C : Type 0} (s : List ℕ) (c : Component) → facility s ≡ shows c → ((tag : ℕ) (contents : List ℕ) → Encloses tag contents s → component tag contents ≡ sound c → C) → C
-unfolding facility
-facility-was [] c e next = not-shown c refl e
-facility-was {C} (a ∷ s) c e next = ranged (leb invokeTag a && leb a rejectTag) e
-  where
-    faulty-hides : (b : Bool) (n : ℕ) (i : Option ℤ) → cond b faultyReject (general n i) ≡ shows c → C
-    faulty-hides true n i k = not-shown c refl k
-    faulty-hides false n i k = not-shown c refl k
-
-    ended : (g : Taken Element) (b : Bool) → isEmpty (g .rest) ≡ b → element (a ∷ s) ≡ sound g → cond b (inside a (g .value .contents)) leftOver ≡ shows c → C
-    ended g true i p k =
-        let y = encloses-of (g .value .tag) (g .value .contents) (a ∷ s) (p ∙ λ j. took (g .value) (empty-is (g .rest) i j)) in
-        let t : g .value .tag ≡ a = sym (ap (λ (l : List ℕ). getD l 0 0) (y .is)) in
-        next a (g .value .contents) (subst (λ (n : ℕ). Encloses n (g .value .contents) (a ∷ s)) t y) (shown-was a (g .value .contents) c k)
-    ended g false i p k = not-shown c refl k
-
-    read : (o : Answer (Taken Element)) → element (a ∷ s) ≡ o → outer a o ≡ shows c → C
-    read (fault n) p k = faulty-hides (eqb a rejectTag) unreadable none k
-    read (sound g) p k = ended g (isEmpty (g .rest)) refl p k
-
-    ranged : (b : Bool) → cond b (outer a (element (a ∷ s))) (general 0 none) ≡ shows c → C
-    ranged true k = read (element (a ∷ s)) refl k
-    ranged false k = not-shown c refl k
-
--- a sound answer on one branch or the other
-branch : {A C : Type 0} (b : Bool) (o p : Answer A) (a : A) → cond b o p ≡ sound a → (b ≡ true → o ≡ sound a → C) → (b ≡ false → p ≡ sound a → C) → C
-branch true o p a e this other = this refl e
-branch false o p a e this other = other refl e
-
 not-extensible : {C : Type 0} (c d : Component) → d ≡ c → extensible d ≡ false → extensible c ≡ true → C
 not-extensible c d e f h = absurd (false≢true (sym f ∙ ap extensible e ∙ h))
-
-coded-was : (s : List ℕ) (d : Coded) → coded s ≡ sound d → (operation : List ℕ) × (s ≡ operation ++ d .parameter)
-unfolding coded
-coded-was s d e =
-    through (single 0x02 s) _ d e λ o a b.
-    through (parameter (o .rest)) _ d b λ w u z.
-    let f = single-local 0x02 s o a in
-    let r : o .rest ≡ d .parameter = sym (parameter-was (o .rest) w u) ∙ ap (λ (n : Coded). n .parameter) (sound-inj z) in
-    (f .taken, f .split ∙ ap (λ (n : List ℕ). f .taken ++ n) r)
 
 module _ (q s : List ℕ) (c : Component) (h : extensible c ≡ true) where
   invoke-exists : (contents : List ℕ) (i : Taken ℕ) → Encloses invokeTag contents s → single 0x02 contents ≡ sound i → invokeOf (idOf (i .value)) (i .rest) ≡ sound c
@@ -181,33 +104,26 @@ module _ (q s : List ℕ) (c : Component) (h : extensible c ≡ true) where
       (λ t z. result-exists contents i (subst (λ (n : ℕ). Encloses n contents s) (eqb-true tag resultTag t) k) a z)
       (λ _ z. error-none (idOf (i .value)) (i .rest) z)
 
-required-was : (type : ℕ) (s : List ℕ) (g : Taken (List ℕ)) → required type s ≡ sound g → s ≡ laid type (g .value) (g .rest)
-unfolding required
-required-was type s g e =
-    through (mandatory type s) _ g e λ k p r.
-    passed (clear (k .rest)) mandatoryMissing (sound k) g r λ t z.
-    mandatory-is type s (g .value) (g .rest) (p ∙ z)
-
 module _ (q : List ℕ) (c : Component) (h : extensible c ≡ true) (rest : List ℕ) where
   -- where the Facility value of a REGISTER or FACILITY stands
-  four-exists : {C : Type 0} (e : Entry) (type : ℕ) (s : List ℕ) → shownBy (fourToSix e type s) ≡ some (record { value = c; rest = rest })
+  four-exists : {C : Type 0} (e : Entry) (type : ℕ) (s : List ℕ) → shownBy (fourToSix e type s) ≡ some (record { component = c; behind = rest })
       → ((v behind t : List ℕ) → s ≡ laid type v behind → LaterFacility (parameterOf c) q v t → C) → C
   unfolding fourToSix
   four-exists {C} e type s k next = go (required type s) refl k
     where
-      go : (o : Answer (Taken (List ℕ))) → required type s ≡ o → shownBy (onRequired e o) ≡ some (record { value = c; rest = rest }) → C
+      go : (o : Answer (Taken (List ℕ))) → required type s ≡ o → shownBy (stepFour o (λ v r. fiveAndSix e (facility v) r)) ≡ some (record { component = c; behind = rest }) → C
       go (fault n) p z = nothing-shown z
       go (sound g) p z =
           let y = facility-exists q (g .value) c h (five-shows e (facility (g .value)) (g .rest) c rest z .0) in
           next (g .value) (g .rest) (y .0) (required-was type s g p) (y .1)
 
   -- and that of a RELEASE COMPLETE
-  release-exists : (e : Entry) (first : ℕ) (s : List ℕ) → shownBy (onRelease e s) ≡ some (record { value = c; rest = rest })
+  release-exists : (e : Entry) (first : ℕ) (s : List ℕ) → shownBy (onRelease e s) ≡ some (record { component = c; behind = rest })
       → (m : List ℕ) × LaterMessage (parameterOf c) q (first ∷ releaseType ∷ s) m
   unfolding onRelease firstWhole
   release-exists e first s k = go (firstTaken 0x1C s) refl k
     where
-      go : (o : Option (Taken (List ℕ))) → firstTaken 0x1C s ≡ o → shownInRelease e o ≡ some (record { value = c; rest = rest })
+      go : (o : Option (Taken (List ℕ))) → firstTaken 0x1C s ≡ o → shownInRelease e o ≡ some (record { component = c; behind = rest })
           → (m : List ℕ) × LaterMessage (parameterOf c) q (first ∷ releaseType ∷ s) m
       go none p z = nothing-shown z
       go (some g) p z =
@@ -217,33 +133,20 @@ module _ (q : List ℕ) (c : Component) (h : extensible c ≡ true) (rest : List
           let n = first ∷ releaseType ∷ (f .before ++ (0x1C ∷ length (y .0) ∷ (y .0 ++ f .behind))) in
           (n, subst (λ (x : List ℕ). LaterMessage (parameterOf c) q (first ∷ releaseType ∷ x) n) (sym (f .split)) (inRelease first (f .others) (y .1) (f .behind)))
 
-  message-exists : (e : Entry) (f first type : ℕ) (s : List ℕ) → shownBy (stepTwo e f type s) ≡ some (record { value = c; rest = rest })
+  message-exists : (e : Entry) (f first type : ℕ) (s : List ℕ) → shownBy (onType e f type s) ≡ some (record { component = c; behind = rest })
       → (m : List ℕ) × LaterMessage (parameterOf c) q (first ∷ type ∷ s) m
-  unfolding stepTwo
-  message-exists e f first type s k = go (eqb type releaseType) (eqb type facilityType) (eqb type registerType) refl refl refl k
-    where
-      of-type : (n : ℕ) → eqb type n ≡ true → (m : List ℕ) × LaterMessage (parameterOf c) q (first ∷ n ∷ s) m → (m : List ℕ) × LaterMessage (parameterOf c) q (first ∷ type ∷ s) m
-      of-type n t y = rw (eqb-true type n t) y
+  message-exists e f first type s k =
+      by-type (λ d. shownBy d ≡ some (record { component = c; behind = rest }) → (m : List ℕ) × LaterMessage (parameterOf c) q (first ∷ type ∷ s) m) e f type s
+      nothing-shown nothing-shown nothing-shown nothing-shown
+      (λ t _ z. rw t (release-exists e first s z))
+      (λ t _ z. four-exists e facilityType s z λ w behind y i j. rw (t, i) (first ∷ facilityType ∷ length y ∷ (y ++ behind), inFacility first j behind))
+      (λ t _ z. four-exists e registerType s z λ w behind y i j. rw (t, i) (first ∷ registerType ∷ 0x1C ∷ length y ∷ (y ++ behind), inRegister first j behind))
+      k
 
-      go : (a b d : Bool) → eqb type releaseType ≡ a → eqb type facilityType ≡ b → eqb type registerType ≡ d
-          → shownBy (byType e f (cond a ReleaseComplete (cond b Facility (cond d Register Unknown))) s) ≡ some (record { value = c; rest = rest })
-          → (m : List ℕ) × LaterMessage (parameterOf c) q (first ∷ type ∷ s) m
-      go true b d t u v z = held (e .isOpen) _ (silent 1) _ refl z λ _ z₁. of-type releaseType t (release-exists e first s z₁)
-      go false true d t u v z =
-          held (e .isOpen) _ (withCause 81) _ refl z λ _ z₁.
-          four-exists e facilityType s z₁ λ w behind y i j.
-          of-type facilityType u (first ∷ facilityType ∷ length y ∷ (y ++ behind), rw i (inFacility first j behind))
-      go false false true t u v z =
-          failed (e .isOpen) (withCause 98) _ _ refl z λ _ z₁.
-          failed (eqb f 1) (silent 1) _ _ refl z₁ λ _ z₂.
-          four-exists e registerType s z₂ λ w behind y i j.
-          of-type registerType v (first ∷ registerType ∷ 0x1C ∷ length y ∷ (y ++ behind), rw i (inRegister first j behind))
-      go false false false t u v z = nothing-shown z
-
-  whole-exists : (t : List ℕ) (space : ℕ) (m : List ℕ) → GoesOn t space m → shownBy (further t m) ≡ some (record { value = c; rest = rest })
+  whole-exists : (t : List ℕ) (space : ℕ) (m : List ℕ) → GoesOn t space m → shownBy (further t m) ≡ some (record { component = c; behind = rest })
       → (n : List ℕ) × LaterMessage (parameterOf c) q m n
-  whole-exists t space [] o k = absurd (false≢true (sym (o .least)))
-  whole-exists t space (a ∷ []) o k = absurd (false≢true (sym (o .least)))
+  whole-exists t space [] o k = absurd (false≢true (o .least))
+  whole-exists t space (a ∷ []) o k = absurd (false≢true (o .least))
   whole-exists t space (first ∷ type ∷ s) o k = message-exists _ _ first type s k
 
 pub exists : Exists

@@ -12,11 +12,12 @@ use Rattle.places.specs.Places.{single}
 use Rattle.components.specs.Component.{parameterOf, invokeTag, resultTag}
 use Rattle.components.specs.LaterEdition.{Encloses, LaterParameter, LaterFacility, inInvoke, inResult}
 use Rattle.components.proofs.LaterLaws.{single-local, before-is, encloses-is}
-use Rattle.messages.specs.Scan.{firstTaken, Passed}
+use Rattle.messages.specs.Scan.{firstTaken}
+use Rattle.messages.specs.LaterEdition.{Passed}
 use Rattle.messages.proofs.ScanLaws.{sized-back}
 use Rattle.messages.specs.Layout.{sized, registerType, facilityType, releaseType}
 use Rattle.promises.specs.LaterEdition.{LaterMessage, inRegister, inFacility, inRelease, IsOne}
-use Rattle.promises.proofs.Shown.{some-inj, first-is}
+use Rattle.telephone.proofs.Shown.{some-inj, first-is}
 
 -- an element has one tag and one contents
 encloses-one : (tag tag′ : ℕ) (a b s : List ℕ) → refusedTag tag ≡ false → refusedTag tag′ ≡ false → Encloses tag a s → Encloses tag′ b s → (tag ≡ tag′) × (a ≡ b)

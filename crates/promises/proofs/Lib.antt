@@ -2,8 +2,9 @@ mod Walk
 mod Held
 mod CallFacts
 mod Silence
+mod Kept
+mod Listed
 mod RejectBack
-mod Shown
 pub mod OneVerdict
 pub mod ReadBack
 pub mod CannotAlter
@@ -11,9 +12,10 @@ pub mod PastIsTooLong
 pub mod Exists
 pub mod IsOne
 pub mod IsOctets
-pub mod Demand3
 pub mod Unrecognized
+pub mod Demand3
 pub mod Determined
 pub mod Worked
 pub mod Editions
 pub mod NeverDamaged
+pub mod All

@@ -14,20 +14,25 @@ use Rattle.octets.proofs.ReaderLaws.{sound-inj, not-sound, through, passed}
 use Rattle.elements.specs.Element.{Element, element}
 use Rattle.codes.specs.Operations.{begins}
 use Rattle.codes.specs.Errors.{listed}
-use Rattle.parameters.specs.Parameter.{mistyped, isSound, one, holding, inside, ussd, isPassword, isServiceCode, ussdContents, password, serviceCode, ssForBs}
+use Rattle.parameters.specs.Parameter.{mistyped, isSound, one, holding, contentsAre, ussd, isPassword, isServiceCode, ussdContents, password, serviceCode, ssForBs}
 use Rattle.parameters.specs.Suits.{anyOne, isUssd, noneOrOne, noneOrUssd, suitsInvokeWritten, suitsResultWritten, suits, InvokeWritten, ResultWritten}
 use Rattle.places.specs.Places.{misplaced, parameter}
 use Rattle.components.specs.Component.{Component, invoke, error, reject}
 use Rattle.components.specs.Facility.{shows, facility}
 use Rattle.components.specs.Written.{componentOctets, answer, IsParameter, Writable}
 use Rattle.components.proofs.ReadBack.{read-back, answer-writable}
-use Rattle.messages.specs.Layout.{registerType, facilityType, sentFirst, register, facilityMessage, releaseFacility}
-use Rattle.sending.proofs.SentBack.{register-found, facility-found, release-found}
-use Rattle.table.specs.Table.{entryAt, valid, lowestClosed}
+use Rattle.messages.specs.Layout.{registerType, facilityType, sentFirst, register, facilityMessage}
+use Rattle.messages.specs.Scan.{required}
+use Rattle.sending.proofs.SentBack.{register-found, facility-found}
+use Rattle.table.specs.Table.{named, entryAt, valid, lowestClosed}
 use Rattle.judging.specs.StepSix.{among, full, operationOf}
 use Rattle.calling.specs.Calls.{Sending, orRefused, transaction, sendBegin, sendInvoke, sendResult, sendError}
+use Rattle.telephone.specs.Calls.{called, noValue, begin, invokeWithin, result, error as calls-error}
 use Rattle.telephone.proofs.Paths.{fitting-is}
+use Rattle.telephone.proofs.OutcomeLaws.{front-is}
+use Rattle.telephone.proofs.Shown.{some-inj}
 use Rattle.promises.specs.ReadBack.{ComponentReadsBack, Carries, CallReadsBack, Demand2}
+use Rattle.promises.proofs.CallFacts.{Fine, fine-begin, fine-invoke, fine-result, fine-error, transaction-is}
 use Rattle.promises.proofs.RejectBack.{reject-reads-back}
 
 -- one element, and nothing behind it, is a parameter
@@ -45,10 +50,10 @@ one-parameter (a ∷ p) h = go (element (a ∷ p)) h
     go (sound g) h = ended (isEmpty (g .rest)) (g .value) h
 
 -- contents held under a tag are those of one element
-held-one : (tag : ℕ) (p : List ℕ) (test : List ℕ → Bool) → inside (holding tag p) test ≡ true → isSound (one p) ≡ true
+held-one : (tag : ℕ) (p : List ℕ) (test : List ℕ → Bool) → contentsAre (holding tag p) test ≡ true → isSound (one p) ≡ true
 held-one tag p test h = go (one p) h
   where
-    go : (o : Answer Element) → inside (andThen o (λ e. check (eqb (e .tag) tag) mistyped (sound (e .contents)))) test ≡ true → isSound o ≡ true
+    go : (o : Answer Element) → contentsAre (andThen o (λ e. check (eqb (e .tag) tag) mistyped (sound (e .contents)))) test ≡ true → isSound o ≡ true
     go (fault n) h = absurd (false≢true h)
     go (sound e) h = refl
 
@@ -95,26 +100,41 @@ result-parameter o p h = go (eqb o 18) (eqb o 60) h
     go false true h = none-or p (isUssd p) (ussd-one p) h
     go false false h = no-parameter p (and-second (eqb o 61) (isEmpty p) h)
 
+-- a message to be sent: first octet and type, and behind them the Facility value of c
+record Laid (first type : ℕ) (message : List ℕ) (c : Component) : Type 0 where
+  pub body : List ℕ
+  pub is : message ≡ first ∷ type ∷ body
+  pub behind : List ℕ
+  pub found : required type body ≡ took (componentOctets c) behind
+  pub back : facility (componentOctets c) ≡ shows c
+
 module _ (t p : List ℕ) (room : ℕ) (id : ℤ) (i : SFits w8 id) (s : Sending) where
-  in-register : (first : ℕ) (c : Component) → Writable c → s .message ≡ register first (componentOctets c) → Carries registerType (s .message) c
-  in-register first c w e = record { behind = 0x7F ∷ 0x01 ∷ 0x00 ∷ []; found = rw e (register-found first (componentOctets c)); back = read-back c w }
+  in-register : (first : ℕ) (c : Component) → Writable c → s .message ≡ register first (componentOctets c) → Laid first registerType (s .message) c
+  unfolding register
+  in-register first c w e =
+      record { body = drop 2 (register first (componentOctets c)); is = e; behind = 0x7F ∷ 0x01 ∷ 0x00 ∷ []; found = register-found first (componentOctets c); back = read-back c w }
 
-  in-facility : (first : ℕ) (c : Component) → Writable c → s .message ≡ facilityMessage first (componentOctets c) → Carries facilityType (s .message) c
-  in-facility first c w e = record { behind = []; found = rw e (facility-found first (componentOctets c)); back = read-back c w }
+  in-facility : (first : ℕ) (c : Component) → Writable c → s .message ≡ facilityMessage first (componentOctets c) → Laid first facilityType (s .message) c
+  unfolding facilityMessage
+  in-facility first c w e =
+      record { body = drop 2 (facilityMessage first (componentOctets c)); is = e; behind = []; found = facility-found first (componentOctets c); back = read-back c w }
 
-  begin-carries : (o : ℕ) → sendBegin t room o id p ≡ sound s → Carries registerType (s .message) (invoke id none o p)
+  begin-laid : (o : ℕ) → sendBegin t room o id p ≡ sound s → Laid (sentFirst 1 (s .entry)) registerType (s .message) (invoke id none o p)
   unfolding sendBegin
-  begin-carries o e =
+  begin-laid o e =
       passed (valid t) 28 _ s e λ e₁ f₁.
       passed (begins o) 20 _ s f₁ λ e₂ f₂.
       through (orRefused 21 (lowestClosed t)) _ s f₂ λ v e₃ f₃.
       passed (suits InvokeWritten o p) 25 _ s f₃ λ e₄ f₄.
-      in-register (sentFirst 1 v) (invoke id none o p) (i, (tt, invoke-parameter o p e₄)) (sym (ap (λ (z : Sending). z .message) (fitting-is room _ s f₄)))
+      let z = fitting-is room _ s f₄ in
+      let v-is : v ≡ s .entry = ap (λ (x : Sending). x .entry) z in
+      subst (λ (k : ℕ). Laid (sentFirst 1 k) registerType (s .message) (invoke id none o p)) v-is
+      (in-register (sentFirst 1 v) (invoke id none o p) (i, (tt, invoke-parameter o p e₄)) (sym (ap (λ (x : Sending). x .message) z)))
 
   module _ (flag value : ℕ) where
-    invoke-carries : (o : ℕ) → sendInvoke t room flag value o id p ≡ sound s → Carries facilityType (s .message) (invoke id none o p)
+    invoke-laid : (o : ℕ) → sendInvoke t room flag value o id p ≡ sound s → Laid (sentFirst flag value) facilityType (s .message) (invoke id none o p)
     unfolding sendInvoke
-    invoke-carries o e =
+    invoke-laid o e =
         passed (valid t) 28 _ s e λ e₁ f₁.
         passed (begins o) 20 _ s f₁ λ e₂ f₂.
         through (transaction t flag value) _ s f₂ λ k e₃ f₃.
@@ -122,23 +142,22 @@ module _ (t p : List ℕ) (room : ℕ) (id : ℤ) (i : SFits w8 id) (s : Sending
         passed (suits InvokeWritten o p) 25 _ s f₄ λ e₅ f₅.
         in-facility (sentFirst flag value) (invoke id none o p) (i, (tt, invoke-parameter o p e₅)) (sym (ap (λ (z : Sending). z .message) (fitting-is room _ s f₅)))
 
-    result-carries : sendResult t room flag value id p ≡ sound s → Carries facilityType (s .message) (answer id (operationOf id (entryAt t (s .entry) .peer)) p)
+    result-laid : sendResult t room flag value id p ≡ sound s → (k : ℕ) → named flag value ≡ some k
+        → Laid (sentFirst flag value) facilityType (s .message) (answer id (operationOf id (entryAt t k .peer)) p)
     unfolding sendResult
-    result-carries e =
+    result-laid e k n =
         passed (valid t) 28 _ s e λ e₁ f₁.
-        through (transaction t flag value) _ s f₁ λ k e₂ f₂.
-        passed (among id (entryAt t k .peer)) 24 _ s f₂ λ e₃ f₃.
-        passed (suits ResultWritten (operationOf id (entryAt t k .peer)) p) 25 _ s f₃ λ e₄ f₄.
-        let z = fitting-is room _ s f₄ in
-        let k-is : k ≡ s .entry = ap (λ (x : Sending). x .entry) z in
-        let o : ℕ = operationOf id (entryAt t k .peer) in
-        let m : s .message ≡ facilityMessage (sentFirst flag value) (componentOctets (answer id o p)) = sym (ap (λ (x : Sending). x .message) z) in
-        let y : Carries facilityType (s .message) (answer id o p) = in-facility (sentFirst flag value) (answer id o p) (answer-writable id o p i (result-parameter o p e₄)) m in
-        subst (λ (j : ℕ). Carries facilityType (s .message) (answer id (operationOf id (entryAt t j .peer)) p)) k-is y
+        through (transaction t flag value) _ s f₁ λ j e₂ f₂.
+        passed (among id (entryAt t j .peer)) 24 _ s f₂ λ e₃ f₃.
+        passed (suits ResultWritten (operationOf id (entryAt t j .peer)) p) 25 _ s f₃ λ e₄ f₄.
+        let m = sym (ap (λ (x : Sending). x .message) (fitting-is room _ s f₄)) in
+        let k-is : j ≡ k = some-inj (sym (transaction-is t flag value j e₂) ∙ n) in
+        subst (λ (l : ℕ). Laid (sentFirst flag value) facilityType (s .message) (answer id (operationOf id (entryAt t l .peer)) p)) k-is
+        (in-facility (sentFirst flag value) _ (answer-writable id (operationOf id (entryAt t j .peer)) p i (result-parameter (operationOf id (entryAt t j .peer)) p e₄)) m)
 
-    error-carries : (code : ℕ) → sendError t room flag value id code p ≡ sound s → Carries facilityType (s .message) (error id code p)
+    error-laid : (code : ℕ) → sendError t room flag value id code p ≡ sound s → Laid (sentFirst flag value) facilityType (s .message) (error id code p)
     unfolding sendError
-    error-carries code e =
+    error-laid code e =
         passed (valid t) 28 _ s e λ e₁ f₁.
         passed (listed code) 20 _ s f₁ λ e₂ f₂.
         through (transaction t flag value) _ s f₂ λ k e₃ f₃.
@@ -146,14 +165,36 @@ module _ (t p : List ℕ) (room : ℕ) (id : ℤ) (i : SFits w8 id) (s : Sending
         passed (noneOrOne p) 25 _ s f₄ λ e₅ f₅.
         in-facility (sentFirst flag value) (error id code p) (i, none-or p (anyOne p) (λ h. h) e₅) (sym (ap (λ (z : Sending). z .message) (fitting-is room _ s f₅)))
 
+-- a call that succeeds leaves its message at the front of the buffer
+module _ (t b : List ℕ) (which : Option ℕ) (value : Sending → ℕ) where
+  carried : {C : Type 0} (o : Answer Sending) → Fine t (length b) which o → called t b value o .code ≡ 0 → ((s : Sending) → o ≡ sound s → C) → C
+  carried (fault n) h z next = absurd (false≢true (rw z at h))
+  carried (sound s) h z next = next s refl
+
+  at-front : (first type : ℕ) (o : Answer Sending) (s : Sending) (c : Component) → o ≡ sound s → Laid first type (s .message) c → Carries first type (called t b value o) c
+  at-front first type o s c e l = rw e (record { body = l .body; front = front-is b (s .message) ∙ l .is; behind = l .behind; found = l .found; back = l .back })
+
 component-reads-back : ComponentReadsBack
 component-reads-back c w = read-back c w
 
 call-reads-back : CallReadsBack
-call-reads-back t p room flag value operation code id i s = (
-  begin-carries t p room id i s operation,
-  (invoke-carries t p room id i s flag value operation, (result-carries t p room id i s flag value, error-carries t p room id i s flag value code)),
-)
+unfolding begin invokeWithin result calls-error
+call-reads-back t b p flag value operation code id i =
+    let n = length b in (
+      (λ z. carried t b (lowestClosed t) (λ s. s .entry) (sendBegin t n operation id p) (fine-begin t n operation id p) z λ s e.
+          subst (λ (o : Answer Sending). Carries (sentFirst 1 (called t b (λ x. x .entry) o .value)) registerType (called t b (λ x. x .entry) o) (invoke id none operation p)) (sym e)
+          (at-front t b (lowestClosed t) (λ x. x .entry) _ registerType (sound s) s _ refl (begin-laid t p n id i s operation e))),
+      (
+        (λ z. carried t b (named flag value) noValue (sendInvoke t n flag value operation id p) (fine-invoke t n flag value operation id p) z λ s e.
+            at-front t b (named flag value) noValue _ facilityType _ s _ e (invoke-laid t p n id i s flag value operation e)),
+        (
+          (λ z k m. carried t b (named flag value) noValue (sendResult t n flag value id p) (fine-result t n flag value id p) z λ s e.
+              at-front t b (named flag value) noValue _ facilityType _ s _ e (result-laid t p n id i s flag value e k m)),
+          λ z. carried t b (named flag value) noValue (sendError t n flag value id code p) (fine-error t n flag value id code p) z λ s e.
+              at-front t b (named flag value) noValue _ facilityType _ s _ e (error-laid t p n id i s flag value code e),
+        ),
+      ),
+    )
 
 pub demand-2 : Demand2
 demand-2 = (component-reads-back, (call-reads-back, reject-reads-back))

@@ -2,7 +2,7 @@
 use Prim.Native.Nat.{ℕ, _<_}
 use mathlib.Core.Path.{_≡_, refl, sym, ap, subst, _∙_}
 use mathlib.Core.List.{List, [], _∷_, _++_}
-use mathlib.Core.Bool.{Bool, true, false, cond, not, _&&_}
+use mathlib.Core.Bool.{Bool, true, false, cond, not, _&&_, false≢true}
 use mathlib.Core.Option.{Option, none, some}
 use native.Mathlib.Omega.{arith}
 use lib.IntN.{ℤ}
@@ -13,6 +13,7 @@ use mir.Val.{SFits}
 use Rattle.codes.proofs.IdLaws.{is-id}
 use Rattle.octets.specs.Octets.{Octets}
 use Rattle.octets.specs.Reader.{Answer, fault, sound, Taken, took, andThen, check, octet, front, isEmpty, alone}
+use Rattle.octets.specs.Unless.{unless}
 use Rattle.octets.proofs.OctetsLaws.{octets-take, octets-drop}
 use Rattle.octets.proofs.ReaderLaws.{sound-inj, not-sound, through, passed, rest-octets, octet-local}
 use Rattle.elements.specs.Element.{Element, missing, unreadable, refusedTag, lengthOf, element}
@@ -28,15 +29,18 @@ use Rattle.codes.specs.Operations.{serves}
 use Rattle.codes.specs.Errors.{listed}
 use Rattle.codes.specs.Problems.{invoke as invokeProblem}
 use Rattle.parameters.specs.Suits.{suits, InvokeReceived, ResultReceived}
-use Rattle.messages.specs.Layout.{registerType, mandatoryMissing, mandatory}
+use Rattle.messages.specs.Layout.{registerType, mandatoryMissing, mandatory, releaseFacility}
 use Rattle.messages.specs.Scan.{clear, required}
 use Rattle.messages.proofs.ScanLaws.{mandatory-is}
 use Rattle.sending.proofs.SentBack.{release-found}
 use Rattle.table.specs.Table.{Entry, entryAt}
 use Rattle.judging.specs.StepSix.{Judged, problem, accepted, among, full, operationOf, linkedProblem, orProblem, withPeer, isOurs, judgeInvoke, judgeResult, judgeError}
 use Rattle.deciding.specs.Decision.{Decision, silent, withCause, withReject, onReject, released, taken}
-use Rattle.deciding.specs.Steps.{pickedEntry, onJudged, stepSix, fiveAndSix, decide}
-use Rattle.promises.specs.ReadBack.{RejectReadsBack}
+use Rattle.deciding.specs.Steps.{pickedEntry, replyFirst, onJudged, stepSix, fiveAndSix, decide}
+use Rattle.telephone.specs.Receive.{verdictOf, act, receive}
+use Rattle.telephone.proofs.OutcomeLaws.{front-is}
+use Rattle.promises.specs.ReadBack.{CarriesReject, RejectReadsBack}
+use Rattle.promises.proofs.Silence.{Says, decide-says}
 use Rattle.promises.proofs.Walk.{walk}
 use Rattle.places.specs.Places.{called, coded, rejected, parameter}
 
@@ -151,28 +155,29 @@ abbrev Tagged : Judged → Type 0
 Tagged (problem tag number) = problemTag tag ≡ true
 Tagged (accepted e) = Unit {0}
 
-tagged : (b : Bool) (x y : Judged) → Tagged x → Tagged y → Tagged (cond b x y)
-tagged true x y h k = h
-tagged false x y h k = k
+tagged : (b : Bool) (x y : Judged) → Tagged x → Tagged y → Tagged (unless b x y)
+tagged true x y h k = k
+tagged false x y h k = h
 
 invoke-tagged : (e : Entry) (id : ℤ) (linked : Option ℤ) (o : ℕ) (p : List ℕ) → Tagged (judgeInvoke e id linked o p)
 unfolding judgeInvoke
 invoke-tagged e id linked o p =
-    tagged (among id (e .peer)) _ _ refl
-    (tagged (full (e .peer)) _ _ refl
-    (tagged (serves o) _ _ (go (linkedProblem (e .own) linked o)) refl))
+    tagged (not (among id (e .peer))) _ _ refl
+    (tagged (not (full (e .peer))) _ _ refl
+    (tagged (serves o) _ _ refl
+    (go (linkedProblem (e .own) linked o))))
   where
-    go : (x : Option ℕ) → Tagged (orProblem x (cond (suits InvokeReceived o p) (accepted (withPeer e id o)) (problem invokeProblem 2)))
-    go none = tagged (suits InvokeReceived o p) _ _ tt refl
+    go : (x : Option ℕ) → Tagged (orProblem x (unless (suits InvokeReceived o p) (problem invokeProblem 2) (accepted (withPeer e id o))))
+    go none = tagged (suits InvokeReceived o p) _ _ refl tt
     go (some n) = refl
 
 result-tagged : (e : Entry) (id : ℤ) (o : Option ℕ) (p : List ℕ) → Tagged (judgeResult e id o p)
 unfolding judgeResult
-result-tagged e id o p = tagged (among id (e .own)) _ _ (tagged (isOurs o (operationOf id (e .own)) && suits ResultReceived (operationOf id (e .own)) p) _ _ tt refl) refl
+result-tagged e id o p = tagged (among id (e .own)) _ _ refl (tagged (isOurs o (operationOf id (e .own)) && suits ResultReceived (operationOf id (e .own)) p) _ _ refl tt)
 
 error-tagged : (e : Entry) (id : ℤ) (code : ℕ) → Tagged (judgeError e id code)
 unfolding judgeError
-error-tagged e id code = tagged (among id (e .own)) _ _ (tagged (listed code) _ _ tt refl) refl
+error-tagged e id code = tagged (among id (e .own)) _ _ refl (tagged (listed code) _ _ refl tt)
 
 -- a decision to send a Reject that can be written
 abbrev Rejects : Decision → Type 0
@@ -221,10 +226,31 @@ value-octets type s g e h =
 
 decide-rejects : (t m : List ℕ) (room : ℕ) → Octets m → Rejects (decide t m room)
 decide-rejects t m room h =
-    walk Rejects (λ code k. tt) (λ n. tt) (λ shown cause. tt) t m room
+    walk Rejects (λ code k. tt) (λ n k. tt) (λ shown cause. tt) t m room
     (λ v n type g q. five-rejects (entryAt t (pickedEntry m)) (facility (g .value)) (g .rest) (facility-has-id (g .value) (value-octets type (drop 2 m) g q (octets-drop 2 m h))))
 
+-- a decision that is told as verdict 3 sends a Reject
+module _ (t m b : List ℕ) where
+  rejected-back : (d : Decision) → Says d ≡ true → Rejects d → verdictOf d ≡ 3 → CarriesReject (replyFirst m) (act t m b d)
+  unfolding act releaseFacility
+  rejected-back (silent code) s w e = absurd (false≢true (rw e at s))
+  rejected-back (withCause number) s w e = absurd (omega arith)
+  rejected-back (withReject id tag number) s w e =
+      record {
+        id = id;
+        tag = tag;
+        number = number;
+        body = drop 2 (releaseFacility (replyFirst m) (componentOctets (reject id tag number)));
+        front = front-is b (releaseFacility (replyFirst m) (componentOctets (reject id tag number)));
+        found = release-found (replyFirst m) (componentOctets (reject id tag number));
+        back = read-back (reject id tag number) w;
+      }
+  rejected-back (onReject shown) s w e = absurd (omega arith)
+  rejected-back (released shown cause) s w e = absurd (omega arith)
+  rejected-back (taken entry shown) s w e = absurd (omega arith)
+
 pub reject-reads-back : RejectReadsBack
-reject-reads-back t m room first id tag number h e =
-    let w : Writable (reject id tag number) = subst Rejects e (decide-rejects t m room h) in
-    (release-found first (componentOctets (reject id tag number)), read-back (reject id tag number) w)
+unfolding receive act
+reject-reads-back t m b h e =
+    let n = length b in
+    rejected-back t m b (decide t m n) (decide-says t m n) (decide-rejects t m n h) e

@@ -2,22 +2,22 @@
 use Prim.Native.Nat.{ℕ, _≤_, _<_}
 use mathlib.Core.Path.{_≡_, refl, _∙_}
 use mathlib.Core.List.{List}
-use mathlib.Core.Bool.{Bool, true, false, cond, false≢true}
+use mathlib.Core.Bool.{Bool, true, false, false≢true}
 use mathlib.Core.Option.{Option, none, some}
 use native.Mathlib.Omega.{arith}
 use lib.IntN.{ℤ}
 use lib.ListN.{length}
-use lib.Dec.{ltb, eqb}
-use borrow.Author.Tests.{ltb-false, eqb-false}
+use borrow.Author.Tests.{leb-true, eqb-false}
 use Rattle.components.specs.Component.{Component, invoke, result, error, reject}
 use Rattle.components.specs.Facility.{Finding, empty, shows, general, leftOver, faultyReject, facility}
-use Rattle.messages.specs.Layout.{discriminator, value}
-use Rattle.table.specs.Table.{Entry, entryAt, valid}
+use Rattle.messages.specs.Layout.{value}
+use Rattle.table.specs.Table.{Entry, entryAt}
 use Rattle.table.proofs.TableLaws.{valid-each}
 use Rattle.judging.specs.StepSix.{Judged, problem, accepted, judgeInvoke, judgeResult, judgeError}
 use Rattle.deciding.specs.Decision.{Decision, silent, withCause, withReject, onReject, released, taken}
 use Rattle.deciding.specs.Steps.{firstOctet, pickedEntry, onJudged, stepSix, fiveAndSix, decide}
 use Rattle.deciding.specs.Seen.{Ready}
+use Rattle.deciding.proofs.StepLaws.{tested}
 use Rattle.promises.specs.OneVerdict.{sendsNothing}
 use Rattle.promises.proofs.Walk.{walk}
 
@@ -58,7 +58,7 @@ five-says e leftOver r = refl
 five-says e faultyReject r = refl
 
 pub decide-says : (t m : List ℕ) (room : ℕ) → Says (decide t m room) ≡ true
-decide-says t m room = walk (λ d. Says d ≡ true) (λ code h. h) (λ n. refl) (λ shown cause. refl) t m room (λ v n type g q. five-says (entryAt t (pickedEntry m)) (facility (g .value)) (g .rest))
+decide-says t m room = walk (λ d. Says d ≡ true) (λ code h. h) (λ n h. refl) (λ shown cause. refl) t m room (λ v n type g q. five-says (entryAt t (pickedEntry m)) (facility (g .value)) (g .rest))
 
 -- whether a decision is no silence
 abbrev pub isLoud : Decision → Bool
@@ -69,24 +69,15 @@ isLoud (onReject shown) = true
 isLoud (released shown cause) = true
 isLoud (taken entry shown) = true
 
-loud-then : {C : Type 0} (b : Bool) (x : Decision) (n : ℕ) → isLoud (cond b x (silent n)) ≡ true → (b ≡ true → isLoud x ≡ true → C) → C
-loud-then true x n h k = k refl h
-loud-then false x n h k = absurd (false≢true h)
-
-loud-else : {C : Type 0} (b : Bool) (x : Decision) (n : ℕ) → isLoud (cond b (silent n) x) ≡ true → (b ≡ false → isLoud x ≡ true → C) → C
-loud-else true x n h k = absurd (false≢true h)
-loud-else false x n h k = k refl h
+silent-not : {C : Type 0} → false ≡ true → C
+silent-not h = absurd (false≢true h)
 
 -- whoever is answered has passed 28 and 27, and step 1
 pub loud-ready : (t m : List ℕ) (room : ℕ) → isLoud (decide t m room) ≡ true → Ready t m room
-unfolding decide
 loud-ready t m room h =
-    loud-then (valid t) _ 28 h λ v h₁.
-    loud-else (ltb room 12) _ 27 h₁ λ r h₂.
-    loud-else (ltb 255 (length m)) _ 6 h₂ λ l h₃.
-    loud-else (ltb (length m) 2) _ 1 h₃ λ n h₄.
-    loud-then (eqb (discriminator (firstOctet m)) 11) _ 7 h₄ λ d h₅.
-    loud-else (eqb (value (firstOctet m)) 7) _ 1 h₅ λ w h₆.
-    let x = eqb-false (value (firstOctet m)) 7 w in
+    tested (λ d. isLoud d ≡ true → Ready t m room) t m room silent-not silent-not silent-not silent-not silent-not
+    (λ g _.
+    let x = eqb-false (value (firstOctet m)) 7 (g .transaction) in
     let y : value (firstOctet m) < 7 = omega arith in
-    (valid-each t v .0, (ltb-false room 12 r, (ltb-false (length m) 2 n, y)))
+    (valid-each t (g .table) .0, (leb-true 12 room (g .room), (leb-true 2 (length m) (g .least), y))))
+    h

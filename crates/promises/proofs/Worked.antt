@@ -5,7 +5,7 @@ use Rattle.codes.specs.Errors.{listed as codes-listed}
 use Rattle.components.specs.Written.{contents as components-contents, answer as components-answer}
 use Rattle.components.specs.Component.{invokeOf as components-invokeOf, resultOf as components-resultOf, errorOf as components-errorOf, rejectOf as components-rejectOf}
 use Rattle.components.specs.Facility.{afterTag as components-afterTag, component as components-component, inside as components-inside, facility as components-facility}
-use Rattle.deciding.specs.Steps.{stepSix as deciding-stepSix, fiveAndSix as deciding-stepFive, fourToSix as deciding-stepFour, onRelease as deciding-onRelease, stepTwo as deciding-stepTwo, pickedEntry as deciding-entryOf, replyFirst as deciding-replyFirst, decide as deciding-decide}
+use Rattle.deciding.specs.Steps.{stepSix as deciding-stepSix, fiveAndSix as deciding-fiveAndSix, fourToSix as deciding-fourToSix, onRelease as deciding-onRelease, pickedEntry as deciding-pickedEntry, replyFirst as deciding-replyFirst, decide as deciding-decide}
 use Rattle.elements.specs.Element.{lengthOf as elements-lengthOf, element as elements-element, rowOf as elements-rowOf, row as elements-row, shortest as elements-shortest}
 use Rattle.judging.specs.StepSix.{among as judging-among, full as judging-full, operationOf as judging-operationOf, without as judging-without, linkedProblem as judging-linkedProblem, judgeInvoke as judging-judgeInvoke, isOurs as judging-isOurs, judgeResult as judging-judgeResult, judgeError as judging-judgeError}
 use Rattle.messages.specs.Layout.{sized as messages-sized, mandatory as messages-mandatory, register as messages-register, facilityMessage as messages-facilityMessage, releaseFacility as messages-releaseFacility}
@@ -15,11 +15,12 @@ use Rattle.parameters.specs.Suits.{suitsInvokeReceived as parameters-suitsInvok
 use Rattle.parameters.specs.Parameter.{string as parameters-string, text as parameters-text, ussdContents as parameters-ussdContents, ussd as parameters-ussd, ssForBsContents as parameters-ssForBsContents}
 use Rattle.places.specs.Places.{single as places-single, parameter as places-parameter, called as places-called, coded as places-coded, rejected as places-rejected}
 use Rattle.components.specs.Texts.{textOf as components-textOf}
-use Rattle.table.specs.Table.{entryOf as table-entryOf, soundImage as table-soundImage, entryAt as table-entryAt, soundEntries as table-soundEntries, valid as table-valid, stateOf as table-stateOf, entryOctets as table-octets, withEntry as table-withEntry, lowestFrom as table-lowestFrom, lowestClosed as table-lowestClosed}
+use Rattle.table.specs.Table.{entryOf as table-entryOf, soundImage as table-soundImage, entryAt as table-entryAt, soundEntries as table-soundEntries, valid as table-valid, stateOf as table-stateOf, entryOctets as table-entryOctets, withEntry as table-withEntry, lowestFrom as table-lowestFrom, lowestClosed as table-lowestClosed}
 use Rattle.telephone.specs.Receive.{act as telephone-act, receive as telephone-receive}
 use Rattle.telephone.specs.Calls.{begin as telephone-begin, result as telephone-result}
+use Rattle.showing.specs.Views.{componentView as showing-componentView, textView as showing-textView, causeView as showing-causeView}
 use Rattle.promises.specs.Worked.{Worked}
 
 pub worked : Worked
-unfolding calling-transaction calling-fitting calling-begin calling-sendResult codes-listed components-contents components-answer components-invokeOf components-resultOf components-errorOf components-rejectOf components-afterTag components-component components-inside components-facility deciding-stepSix deciding-stepFive deciding-stepFour deciding-onRelease deciding-stepTwo deciding-entryOf deciding-replyFirst deciding-decide elements-lengthOf elements-element elements-rowOf elements-row elements-shortest judging-among judging-full judging-operationOf judging-without judging-linkedProblem judging-judgeInvoke judging-isOurs judging-judgeResult judging-judgeError messages-sized messages-mandatory messages-register messages-facilityMessage messages-releaseFacility messages-information messages-clearOf messages-clear messages-required messages-firstOf messages-firstTaken octets-splice parameters-suitsInvokeReceived parameters-suitsResultReceived parameters-suitsInvokeWritten parameters-suitsResultWritten parameters-suits parameters-string parameters-text parameters-ussdContents parameters-ussd parameters-ssForBsContents places-single places-parameter places-called places-coded places-rejected components-textOf table-entryOf table-soundImage table-entryAt table-soundEntries table-valid table-stateOf table-octets table-withEntry table-lowestFrom table-lowestClosed telephone-act telephone-receive telephone-begin telephone-result
-worked = ((refl, (refl, (refl, (refl, refl)))), ((refl, (refl, (refl, refl))), ((refl, refl), ((refl, refl), ((refl, refl), ((refl, refl), ((refl, refl), ((refl, refl), ((refl, refl), (refl, refl))))))))))
+unfolding calling-transaction calling-fitting calling-begin calling-sendResult codes-listed components-contents components-answer components-invokeOf components-resultOf components-errorOf components-rejectOf components-afterTag components-component components-inside components-facility deciding-stepSix deciding-fiveAndSix deciding-fourToSix deciding-onRelease deciding-pickedEntry deciding-replyFirst deciding-decide elements-lengthOf elements-element elements-rowOf elements-row elements-shortest judging-among judging-full judging-operationOf judging-without judging-linkedProblem judging-judgeInvoke judging-isOurs judging-judgeResult judging-judgeError messages-sized messages-mandatory messages-register messages-facilityMessage messages-releaseFacility messages-information messages-clearOf messages-clear messages-required messages-firstOf messages-firstTaken octets-splice parameters-suitsInvokeReceived parameters-suitsResultReceived parameters-suitsInvokeWritten parameters-suitsResultWritten parameters-suits parameters-string parameters-text parameters-ussdContents parameters-ussd parameters-ssForBsContents places-single places-parameter places-called places-coded places-rejected components-textOf table-entryOf table-soundImage table-entryAt table-soundEntries table-valid table-stateOf table-entryOctets table-withEntry table-lowestFrom table-lowestClosed telephone-act telephone-receive telephone-begin telephone-result showing-componentView showing-textView showing-causeView
+worked = (((refl, (refl, (refl, (refl, refl)))), refl), ((refl, (refl, (refl, (refl, refl)))), ((refl, refl), ((refl, refl), ((refl, refl), ((refl, refl), ((refl, refl), ((refl, refl), ((refl, refl), (refl, refl))))))))))

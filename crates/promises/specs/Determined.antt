@@ -1,71 +1,73 @@
--- 01, "How much the promises say": "from it, equal inputs are proved to give equal outcomes". A promise leaves one answer if
--- any two answers that keep it are equal.
+-- 01, "How much the promises say": "from it, equal inputs are proved to give equal outcomes". Each promise is the one that the
+-- function's contract cites.
 use Prim.Native.Nat.{ℕ}
-use mathlib.Core.Path.{_≡_}
 use mathlib.Core.List.{List}
-use mathlib.Core.Bool.{Bool}
-use Rattle.elements.specs.Found.{lengthSeen, LengthWithin, seen, Within}
-use Rattle.parameters.specs.Seen.{contentsSeen, ContentsWithin, octetsSeen, OctetsWithin, ussdSeen, UssdWithin, TextSeen}
-use Rattle.parameters.specs.declared.suits.Suited.{Suited}
-use Rattle.places.specs.Seen.{singleSeen, SingleWithin, callsSeen, CallsWithin, lastSeen, codedSeen, CodedWithin, rejectedSeen, RejectedWithin}
-use Rattle.components.specs.Component.{Component}
-use Rattle.components.specs.Seen.{kindSeen, KindWithin, readingSeen, ReadingWithin}
-use Rattle.messages.specs.Seen.{itemSeen, ItemWithin, bodySeen, BodyWithin, partSeen, PartWithin}
-use Rattle.table.specs.Seen.{slotSeen, namedSeen}
-use Rattle.judging.specs.StepSix.{Judged}
-use Rattle.judging.specs.Seen.{judgementSeen, JudgementText}
-use Rattle.judging.specs.declared.Verdict.{Verdict}
-use Rattle.deciding.specs.Seen.{decisionSeen, DecisionWithin}
-use Rattle.calling.specs.Seen.{callSeen, CallNames}
-use Rattle.calling.specs.Calls.{Sending}
-use Rattle.calling.specs.declared.Call.{Call}
+use lib.IntN.{ℤ}
+use Rattle.octets.specs.OneAnswer.{OneAnswer}
 use Rattle.octets.specs.Reader.{Answer}
-
-abbrev pub OneAnswer : {A : Type 0} → (A → Type 0) → Type 0
-OneAnswer {A} promise = (r q : A) → promise r → promise q → r ≡ q
-
--- A contract `result ≡ definition` leaves one, and so does `exit ≡ definition` for a lent buffer: every exported call, every
--- writer, every test, every number.
-abbrev pub Exact : Type 1
-Exact = (A : Type 0) (definition : A) → OneAnswer (λ (r : A). r ≡ definition)
-
--- an answer that is told by what it says of the octets that were read, and lies within them
-abbrev pub Says : {A B : Type 0} → (List ℕ → A → B) → (List ℕ → A → Type 0) → Type 0
-Says {A} {B} seen within = (s : List ℕ) (definition : B) → OneAnswer (λ (r : A). (seen s r ≡ definition) × within s r)
-
--- an answer that is told by what it means
-abbrev pub Means : {A B : Type 0} → (A → B) → Type 0
-Means {A} {B} seen = (definition : B) → OneAnswer (λ (r : A). seen r ≡ definition)
+use Rattle.elements.specs.Found.{ReadsLength, ReadsElement}
+use Rattle.parameters.specs.Seen.{ReadsContents, ReadsString, ReadsUssdContents, ReadsUssd, WeighsText, WeighsInvoke, WeighsResult}
+use Rattle.places.specs.Seen.{ReadsSingle, ReadsCalls, ReadsLast, ReadsCoded, ReadsRejected}
+use Rattle.components.specs.Component.{Component}
+use Rattle.components.specs.Facility.{Finding}
+use Rattle.components.specs.Seen.{ReadsKind, Reads}
+use Rattle.messages.specs.Types.{TellsType}
+use Rattle.messages.specs.Seen.{ReadsItem, ReadsSized, ReadsMandatory, ReadsRequired, FindsFirst}
+use Rattle.table.specs.Seen.{ReadsEntry, FindsClosed, NamesEntry}
+use Rattle.judging.specs.StepSix.{Judged}
+use Rattle.judging.specs.Seen.{Judges, JudgesError}
+use Rattle.deciding.specs.Decision.{Decision}
+use Rattle.deciding.specs.Seen.{Decides}
+use Rattle.calling.specs.Seen.{DecidesBegin, DecidesInvoke, DecidesResult, DecidesError, DecidesRelease}
 
 -- every function whose answer is an enum or a struct of places, crate by crate
 abbrev pub Elements : Type 0
-Elements = Says lengthSeen LengthWithin × Says seen Within
+Elements = ((s : List ℕ) → OneAnswer (ReadsLength s)) × ((s : List ℕ) → OneAnswer (ReadsElement s))
 
 abbrev pub Parameters : Type 0
 Parameters =
-    (Says contentsSeen ContentsWithin × (((low : ℕ) → Says octetsSeen (λ s r. OctetsWithin s low r)) × Says ussdSeen UssdWithin))
-    × ((sought : Bool) (p : List ℕ) (definition : Bool) → OneAnswer (λ (r : Suited). (r .suited ≡ definition) × TextSeen sought p (r .text)))
+    ((tag : ℕ) (p : List ℕ) → OneAnswer (ReadsContents tag p))
+    × (((low high : ℕ) (s : List ℕ) → OneAnswer (ReadsString low high s))
+    × (((s : List ℕ) → OneAnswer (ReadsUssdContents s))
+    × (((p : List ℕ) → OneAnswer (ReadsUssd p))
+    × (((p : List ℕ) → OneAnswer (WeighsText p))
+    × (((operation : ℕ) (p : List ℕ) → OneAnswer (WeighsInvoke operation p)) × ((operation : ℕ) (p : List ℕ) → OneAnswer (WeighsResult operation p)))))))
 
-abbrev pub Places : Type 0
-Places =
-    Says singleSeen SingleWithin
-    × (Says callsSeen CallsWithin × (Says codedSeen CodedWithin × (Says rejectedSeen RejectedWithin × ((s : List ℕ) → Means (lastSeen s)))))
+abbrev pub InPlaces : Type 0
+InPlaces =
+    ((tag : ℕ) (s : List ℕ) → OneAnswer (ReadsSingle tag s))
+    × (((s : List ℕ) → OneAnswer (ReadsCalls s))
+    × (((s : List ℕ) → OneAnswer (ReadsCoded s))
+    × (((s : List ℕ) → OneAnswer (ReadsRejected s)) × ((s : List ℕ) → OneAnswer (ReadsLast s)))))
 
 abbrev pub Components : Type 0
-Components = Says kindSeen KindWithin × Says readingSeen ReadingWithin
+Components =
+    ((definition : Answer Component) (s : List ℕ) → OneAnswer (ReadsKind definition s)) × ((definition : Finding) (s : List ℕ) → OneAnswer (Reads definition s))
 
 abbrev pub Messages : Type 0
-Messages = Says itemSeen ItemWithin × (Says bodySeen BodyWithin × Says partSeen PartWithin)
+Messages =
+    ((octet : ℕ) → OneAnswer (TellsType octet))
+    × (((s : List ℕ) → OneAnswer (ReadsItem s))
+    × (((s : List ℕ) → OneAnswer (ReadsSized s))
+    × (((type : ℕ) (s : List ℕ) → OneAnswer (ReadsMandatory type s))
+    × (((type : ℕ) (s : List ℕ) → OneAnswer (ReadsRequired type s)) × ((identifier : ℕ) (s : List ℕ) → OneAnswer (FindsFirst identifier s))))))
 
 abbrev pub Transactions : Type 0
 Transactions =
-    Means slotSeen
-    × (Means namedSeen × ((c : Component) (definition : Judged) → OneAnswer (λ (r : Verdict). (judgementSeen r ≡ definition) × JudgementText c r)))
+    ((table : List ℕ) (k : ℕ) → OneAnswer (ReadsEntry table k))
+    × (((table : List ℕ) → OneAnswer (FindsClosed table))
+    × (((flag value : ℕ) → OneAnswer (NamesEntry flag value))
+    × (((definition : Judged) (c : Component) → OneAnswer (Judges definition c))
+    × ((definition : Judged) (id : ℤ) (code : ℕ) → OneAnswer (JudgesError definition id code)))))
 
 abbrev pub Decisions : Type 0
 Decisions =
-    Says decisionSeen DecisionWithin
-    × ((message : ℕ → ℕ → List ℕ) (named : ℕ → ℕ) (definition : Answer Sending) → OneAnswer (λ (r : Call). (callSeen message r ≡ definition) × CallNames named r))
+    ((definition : Decision) (s : List ℕ) → OneAnswer (Decides definition s))
+    × (((table p : List ℕ) (room operation : ℕ) (id : ℤ) → OneAnswer (DecidesBegin table room operation id p))
+    × (((table p : List ℕ) (room flag value operation : ℕ) (id : ℤ) → OneAnswer (DecidesInvoke table room flag value operation id p))
+    × (((table p : List ℕ) (room flag value : ℕ) (id : ℤ) → OneAnswer (DecidesResult table room flag value id p))
+    × (((table p : List ℕ) (room flag value code : ℕ) (id : ℤ) → OneAnswer (DecidesError table room flag value id code p))
+    × ((table : List ℕ) (room flag value : ℕ) → OneAnswer (DecidesRelease table room flag value))))))
 
 abbrev pub Determined : Type 0
-Determined = Elements × (Parameters × (Places × (Components × (Messages × (Transactions × Decisions)))))
+Determined = Elements × (Parameters × (InPlaces × (Components × (Messages × (Transactions × Decisions)))))

@@ -13,10 +13,12 @@ use Rattle.parameters.specs.Parameter.{Text}
 use Rattle.components.specs.Component.{Component, parameterOf}
 use Rattle.components.specs.LaterEdition.{LaterParameter, LaterFacility, withParameter}
 use Rattle.messages.specs.Layout.{registerType, facilityType, releaseType}
-use Rattle.messages.specs.Scan.{Passed, contentsOf}
+use Rattle.messages.specs.Scan.{contentsOf}
+use Rattle.messages.specs.LaterEdition.{Passed}
 use Rattle.components.specs.Texts.{textOf}
 use Rattle.telephone.specs.Outcome.{Outcome, untouched}
 use Rattle.telephone.specs.Receive.{receive}
+use Rattle.promises.specs.Unrecognized.{Unrecognized}
 
 -- the message around the parameter p, and around q in its place; "the Facility's [length] in its one octet"
 pub data LaterMessage (p q : List ℕ) : List ℕ → List ℕ → Type 0 where
@@ -37,7 +39,7 @@ pub record LaterEdition (c : Component) (x m m′ : List ℕ) : Type 0 where
 -- a message that shows a component with a text: "one of the three extensible USSD parameters"
 pub record ShowsText (t m b : List ℕ) (c : Component) (g : Taken Text) : Type 0 where
   pub behind : List ℕ
-  pub shown : receive t m b .shown ≡ some (record { value = c; rest = behind })
+  pub shown : receive t m b .shown ≡ some (record { component = c; behind = behind })
   pub text : textOf c ≡ some g
 
 -- "the verdict, identifiers, operation, coding scheme, string, reply and next table are the same, and the unread tail is the
@@ -49,8 +51,8 @@ pub record SameButTail (o o′ : Outcome) (c : Component) (g : Taken Text) (x q 
   pub table : o′ .table ≡ o .table
   pub cause : contentsOf (o′ .cause) ≡ contentsOf (o .cause)
   pub behind : List ℕ
-  pub was : o .shown ≡ some (record { value = c; rest = behind })
-  pub shown : o′ .shown ≡ some (record { value = withParameter q c; rest = behind })
+  pub was : o .shown ≡ some (record { component = c; behind = behind })
+  pub shown : o′ .shown ≡ some (record { component = withParameter q c; behind = behind })
   pub text : textOf (withParameter q c) ≡ some (record { value = g .value; rest = g .rest ++ x })
 
 -- "Up to 255 octets, from the same table and reply buffer"
@@ -74,4 +76,4 @@ abbrev pub IsOctets : Type 0
 IsOctets = (x m m′ : List ℕ) (c : Component) → Octets m → Octets x → LaterEdition c x m m′ → length m′ ≤ 255 → Octets m′
 
 abbrev pub Demand3 : Type 0
-Demand3 = CannotAlter × (PastIsTooLong × (Exists × (IsOne × IsOctets)))
+Demand3 = CannotAlter × (PastIsTooLong × (Exists × (IsOne × (IsOctets × Unrecognized))))

@@ -1,8 +1,10 @@
 pub mod OneVerdict
 pub mod ReadBack
-pub mod LaterEdition
 pub mod Unrecognized
+pub mod LaterEdition
+pub mod Places
 pub mod Determined
 pub mod Worked
 pub mod Editions
 pub mod NeverDamaged
+pub mod All

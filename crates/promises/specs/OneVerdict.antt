@@ -9,9 +9,10 @@ use mathlib.Core.Option.{Option, none, some}
 use lib.IntN.{ℤ}
 use lib.ListN.{length, take, drop}
 use lib.Dec.{leb, eqb}
+use Rattle.codes.specs.Problems.{general, invoke, result, error}
 use Rattle.components.specs.Component.{reject}
 use Rattle.components.specs.Written.{componentOctets}
-use Rattle.messages.specs.Layout.{release, releaseCause, releaseFacility}
+use Rattle.messages.specs.Layout.{sentFirst, release, releaseCause, releaseFacility}
 use Rattle.table.specs.Table.{entryAt, closed, named, lowestClosed}
 use Rattle.deciding.specs.Steps.{pickedEntry, replyFirst}
 use Rattle.telephone.specs.Outcome.{Outcome, untouched}
@@ -38,15 +39,27 @@ pub record Closes (t : List ℕ) (k : ℕ) (o : Outcome) : Type 0 where
 abbrev pub sendsNothing : ℕ → Bool
 sendsNothing code = eqb code 1 || eqb code 6 || eqb code 7 || eqb code 27 || eqb code 28
 
+-- "A Reject that we read may carry any problem octet; we write only those below": the problems of steps 5 and 6, general 0 to
+-- 2; invoke 0 to 3 and 5 to 7; result and error 0 and 2
+abbrev pub isProblem : ℕ → ℕ → Bool
+isProblem tag number =
+    (eqb tag general && leb number 2)
+    || (eqb tag invoke && (leb number 3 || (leb 5 number && leb number 7)))
+    || ((eqb tag result || eqb tag error) && (eqb number 0 || eqb number 2))
+
+-- and the causes of steps 2 to 5
+abbrev pub isCause : ℕ → Bool
+isCause number = eqb number 29 || eqb number 81 || eqb number 96 || eqb number 97 || eqb number 98
+
 -- 01's table of verdicts, a case a row
 pub data Verdict (t m b : List ℕ) (o : Outcome) : Type 0 where
   ignored : sendsNothing (o .code) ≡ true → o ≡ untouched t b (o .code) → Verdict t m b o
-  withCause : o .code ≡ 2 → (number : ℕ) → Writes b (releaseCause (replyFirst m) number) o → Closes t (pickedEntry m) o → o .shown ≡ none → Verdict t m b o
-  withReject : o .code ≡ 3 → (id : Option ℤ) (tag number : ℕ) → Writes b (releaseFacility (replyFirst m) (componentOctets (reject id tag number))) o → Closes t (pickedEntry m) o
+  withCause : o .code ≡ 2 → (number : ℕ) → isCause number ≡ true → Writes b (releaseCause (replyFirst m) number) o → Closes t (pickedEntry m) o → o .shown ≡ none → Verdict t m b o
+  withReject : o .code ≡ 3 → (id : Option ℤ) (tag number : ℕ) → isProblem tag number ≡ true → Writes b (releaseFacility (replyFirst m) (componentOctets (reject id tag number))) o → Closes t (pickedEntry m) o
       → o .shown ≡ none → Verdict t m b o
   onReject : o .code ≡ 4 → Writes b (release (replyFirst m)) o → Closes t (pickedEntry m) o → Verdict t m b o
   released : o .code ≡ 5 → Writes b [] o → Closes t (pickedEntry m) o → Verdict t m b o
-  taken : o .code ≡ 0 → Writes b [] o → ChangesOnly t (pickedEntry m) o → Verdict t m b o
+  taken : o .code ≡ 0 → Writes b [] o → ChangesOnly t (pickedEntry m) o → entryAt (o .table) (pickedEntry m) .isOpen ≡ true → Verdict t m b o
 
 abbrev pub EveryMessage : Type 0
 EveryMessage = (t m b : List ℕ) → Verdict t m b (receive t m b)
@@ -56,19 +69,23 @@ abbrev pub isRefusal : ℕ → Bool
 isRefusal code = leb 20 code && leb code 28
 
 -- a local call is refused and changes nothing, or it writes one message and changes the entry that it names and no other
-pub data Called (t b : List ℕ) (names : Option ℕ) (o : Outcome) : Type 0 where
-  refused : isRefusal (o .code) ≡ true → o ≡ untouched t b (o .code) → Called t b names o
-  sent : o .code ≡ 0 → (message : List ℕ) → Writes b message o → length message ≤ 255 → (k : ℕ) → names ≡ some k → ChangesOnly t k o → Called t b names o
+pub data CallVerdict (t b : List ℕ) (names : Option ℕ) (o : Outcome) : Type 0 where
+  refused : isRefusal (o .code) ≡ true → o ≡ untouched t b (o .code) → CallVerdict t b names o
+  sent : o .code ≡ 0 → (message : List ℕ) → Writes b message o → length message ≤ 255 → (k : ℕ) → names ≡ some k → ChangesOnly t k o → CallVerdict t b names o
+
+-- a release that succeeds sends the two octets of RELEASE COMPLETE and closes its entry
+abbrev pub Releases : List ℕ → List ℕ → ℕ → ℕ → Outcome → Type 0
+Releases t b flag value o = o .code ≡ 0 → Writes b (release (sentFirst flag value)) o × ((k : ℕ) → named flag value ≡ some k → Closes t k o)
 
 -- begin names the lowest closed own value, the others a transaction by its flag and value
 abbrev pub EveryCall : Type 0
 EveryCall =
     (t b p : List ℕ) (flag value operation code : ℕ) (id : ℤ)
-    → Called t b (lowestClosed t) (calls.begin t b operation id p)
-    × (Called t b (named flag value) (calls.invokeWithin t b flag value operation id p)
-    × (Called t b (named flag value) (calls.result t b flag value id p)
-    × (Called t b (named flag value) (calls.error t b flag value id code p)
-    × Called t b (named flag value) (calls.release t b flag value))))
+    → CallVerdict t b (lowestClosed t) (calls.begin t b operation id p)
+    × (CallVerdict t b (named flag value) (calls.invokeWithin t b flag value operation id p)
+    × (CallVerdict t b (named flag value) (calls.result t b flag value id p)
+    × (CallVerdict t b (named flag value) (calls.error t b flag value id code p)
+    × (CallVerdict t b (named flag value) (calls.release t b flag value) × Releases t b flag value (calls.release t b flag value)))))
 
 abbrev pub Demand1 : Type 0
 Demand1 = EveryMessage × EveryCall

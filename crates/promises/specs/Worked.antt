@@ -2,17 +2,18 @@
 use Prim.Native.Nat.{ℕ}
 use mathlib.Core.Path.{_≡_}
 use mathlib.Core.List.{List, [], _∷_, _++_}
-use mathlib.Core.Option.{Option, none, some}
-use lib.IntN.{ℤ, pos}
-use lib.ListN.{length, take, replicate}
-use Rattle.octets.specs.Reader.{Taken}
-use Rattle.parameters.specs.Parameter.{Text}
-use Rattle.components.specs.Component.{Component, invoke}
-use Rattle.components.specs.Shows.{Shows}
-use Rattle.components.specs.Texts.{textOf}
+use mathlib.Core.Bool.{true, false}
+use mathlib.Core.Option.{none, some}
+use lib.IntN.{pos}
+use lib.ListN.{length, drop, replicate}
+use Rattle.components.specs.Component.{invoke}
 use Rattle.telephone.specs.Outcome.{Outcome}
 use Rattle.telephone.specs.Receive.{receive}
 use Rattle.telephone.specs.Calls.{begin, result}
+use Rattle.telephone.specs.FromC.{receivedOf}
+use Rattle.telephone.specs.Stands.{textShown}
+use Rattle.telephone.specs.declared.receive.Received.{Received}
+use Rattle.promises.specs.ReadBack.{sent}
 
 abbrev pub zeros : ℕ → List ℕ
 zeros n = replicate n 0
@@ -27,14 +28,6 @@ afterW1 = zeros 35 ++ (0x05 ∷ 0x00 ∷ 0x00 ∷ 0x05 ∷ 0x3C ∷ []) ++ zeros
 abbrev pub buffer : List ℕ
 buffer = zeros 24
 
--- what is sent
-abbrev pub sent : Outcome → List ℕ
-sent o = take (o .written) (o .buffer)
-
-abbrev pub text : Shows → Option (Taken Text)
-text none = none
-text (some t) = textOf (t .value)
-
 abbrev pub parameter : List ℕ
 parameter = 0x30 ∷ 0x06 ∷ 0x04 ∷ 0x01 ∷ 0x0F ∷ 0x04 ∷ 0x01 ∷ 0x41 ∷ []
 
@@ -45,9 +38,33 @@ w1 = 0x0B ∷ 0x3B ∷ 0x1C ∷ 0x10 ∷ 0xA1 ∷ 0x0E ∷ 0x02 ∷ 0x01 ∷ 0x0
 abbrev pub W1 : Outcome → Type 0
 W1 o =
     (o .code ≡ 0)
-    × ((o .shown ≡ some (record { value = invoke (pos 5) none 60 parameter; rest = [] }))
-    × ((text (o .shown) ≡ some (record { value = record { scheme = 0x0F; string = 0x41 ∷ [] }; rest = [] }))
+    × ((o .shown ≡ some (record { component = invoke (pos 5) none 60 parameter; behind = [] }))
+    × ((textShown (o .shown) ≡ some (record { value = record { scheme = 0x0F; string = 0x41 ∷ [] }; rest = [] }))
     × ((sent o ≡ []) × (o .table ≡ afterW1))))
+
+-- and as C sees it: the parameter from octet 12 on, the string at 19, the tail empty at the end
+abbrev pub w1Received : Received
+w1Received =
+    record {
+      code = 0;
+      written = 0;
+      shown =
+          record {
+            kind = 0xA1;
+            «has_id» = true;
+            id = pos 5;
+            «has_linked» = false;
+            linked = pos 0;
+            «has_operation» = true;
+            operation = 60;
+            code = 0;
+            tag = 0;
+            problem = 0;
+            parameter = record { start = 12; end = 20 };
+          };
+      text = record { «is_there» = true; scheme = 0x0F; string = record { start = 19; end = 20 }; tail = record { start = 20; end = 20 } };
+      cause = record { «is_there» = false; contents = record { start = 0; end = 0 } };
+    }
 
 -- "W1 with 04 01 02 appended: lengths become 13, 11, 09; same values, tail 04 01 02."
 abbrev pub w2 : List ℕ
@@ -56,8 +73,9 @@ w2 = 0x0B ∷ 0x3B ∷ 0x1C ∷ 0x13 ∷ 0xA1 ∷ 0x11 ∷ 0x02 ∷ 0x01 ∷ 0x0
 abbrev pub W2 : Outcome → Type 0
 W2 o =
     (o .code ≡ 0)
-    × ((text (o .shown) ≡ some (record { value = record { scheme = 0x0F; string = 0x41 ∷ [] }; rest = 0x04 ∷ 0x01 ∷ 0x02 ∷ [] }))
-    × ((sent o ≡ []) × (o .table ≡ afterW1)))
+    × ((o .shown ≡ some (record { component = invoke (pos 5) none 60 (drop 12 w2); behind = [] }))
+    × ((textShown (o .shown) ≡ some (record { value = record { scheme = 0x0F; string = 0x41 ∷ [] }; rest = 0x04 ∷ 0x01 ∷ 0x02 ∷ [] }))
+    × ((sent o ≡ []) × (o .table ≡ afterW1))))
 
 -- the verdict, and what is sent
 abbrev pub Answers : ℕ → List ℕ → Outcome → Type 0
@@ -69,7 +87,7 @@ w3 = 0x0B ∷ 0x3A ∷ 0x10 ∷ 0xA1 ∷ 0x0E ∷ 0x02 ∷ 0x01 ∷ 0x05 ∷ 0x0
 
 abbrev pub Worked : Type 0
 Worked =
-    W1 (receive fresh w1 buffer)
+    (W1 (receive fresh w1 buffer) × (receivedOf (length w1) (receive fresh w1 buffer) ≡ w1Received))
     × (W2 (receive fresh w2 buffer)
     × (Answers 3 (0x8B ∷ 0x2A ∷ 0x1C ∷ 0x08 ∷ 0xA4 ∷ 0x06 ∷ 0x02 ∷ 0x01 ∷ 0x05 ∷ 0x81 ∷ 0x01 ∷ 0x00 ∷ []) (receive afterW1 w3 buffer)
     -- W4, "after W1, result with 30 06 04 01 0F 04 01 31"

@@ -198,6 +198,12 @@ module _ (t : List ℕ) (k : ℕ) (e : Entry) (fits : size * k + size ≤ length
   unfolding entryAt
   read-written h i j = rw image-written (entry-back (e .isOpen) (e .own) (e .peer) h i j)
 
+  pub open-written : e .isOpen ≡ true → entryAt (withEntry t k e) k .isOpen ≡ true
+  unfolding entryAt entryOf stateOf
+  open-written o =
+      let z : getD (withEntry t k e) (size * k) 0 ≡ stateOf e = ap (λ (i : Image). i .state) image-written in
+      rw (z, o, bits (not (null (e .own))) (not (null (e .peer))) .0)
+
   other : (j : ℕ) → (j ≡ k → ⊥) → (b : Bool) → ltb j k ≡ b → (i : ℕ) → i < 5 → getD (withEntry t k e) (size * j + i) 0 ≡ getD t (size * j + i) 0
   unfolding withEntry entryOctets
   other j n true q i l =

@@ -4,8 +4,8 @@ ghost use mathlib.Core.Bool.{cond, not, _&&_};
 ghost use Prim.Native.Nat.{_+_, _*_, _≤_};
 ghost use lib.ListN.{length, getD};
 ghost use lib.Dec.{eqb};
-ghost use Rattle.table.specs.Table.{size, imageAt, waitingIn, entryAt, soundImage, valid, idIn, operationIn, null, added, stateOf, withEntry, lowestClosed, named};
-ghost use Rattle.table.specs.Seen.{invokeSeen, slotSeen, namedSeen};
+ghost use Rattle.table.specs.Table.{size, imageAt, waitingIn, soundImage, valid, idIn, operationIn, null, added, stateOf, withEntry};
+ghost use Rattle.table.specs.Seen.{invokeSeen, slotSeen, ReadsEntry, FindsClosed, NamesEntry};
 
 // An invoke that may wait for its answer.
 pub enum Invoke {
@@ -58,7 +58,7 @@ fn waiting(used: bool, id: u8, operation: u8) -> Invoke
 
 // An entry, whatever its octets are.
 pub fn read_entry(table: &[u8], k: u8) -> Slot
-    ensures { λ r. ⌜ slotSeen r ≡ entryAt (now (table .entry)) k ⌝ }
+    ensures { λ r. ⌜ ReadsEntry (now (table .entry)) k r ⌝ }
 {
     let at = start_of(k);
     let state = octet_at(table, at);
@@ -203,7 +203,7 @@ pub fn write_entry(table: &mut [u8], k: u8, e: Slot)
 
 // The lowest own value whose entry is closed.
 pub fn lowest_closed(table: &[u8]) -> Named
-    ensures { λ r. ⌜ namedSeen r ≡ lowestClosed (now (table .entry)) ⌝ }
+    ensures { λ r. ⌜ FindsClosed (now (table .entry)) r ⌝ }
 {
     for v in 0..7u8 {
         if octet_at(table, start_of(v)) == 0 {
@@ -215,7 +215,7 @@ pub fn lowest_closed(table: &[u8]) -> Named
 
 // The entry that a flag and a value name; flag 1 is ours.
 pub fn entry_named(flag: u8, value: u8) -> Named
-    ensures { λ r. ⌜ namedSeen r ≡ named flag value ⌝ }
+    ensures { λ r. ⌜ NamesEntry flag value r ⌝ }
 {
     if 1 < flag {
         return Named::Nothing;

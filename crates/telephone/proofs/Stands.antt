@@ -64,7 +64,7 @@ whole-ends e m x = further-ends e (drop 2 m) m x (take 2 m, sym (take-append-dro
 shown-ends : (t m b : List ℕ) (w : ShownComponent) → receive t m b .shown ≡ some w → Ends (parameterOf (w .component) ++ w .behind) m
 shown-ends t m b w k =
     whole-ends _ m
-    (by-type (λ d. shownBy d ≡ some w → Ends (parameterOf (w .component) ++ w .behind) (drop 2 m)) _ _ (getD m 1 0) (drop 2 m) nothing-shown (λ n. nothing-shown)
+    (by-type (λ d. shownBy d ≡ some w → Ends (parameterOf (w .component) ++ w .behind) (drop 2 m)) _ _ (getD m 1 0) (drop 2 m) nothing-shown nothing-shown nothing-shown nothing-shown
     (λ _ _. release-ends _ (drop 2 m) w) (λ _ _. four-ends _ (drop 2 m) w facilityType) (λ _ _. four-ends _ (drop 2 m) w registerType)
     (receive-shows t m b w k .1))
 
@@ -105,7 +105,7 @@ unfolding receive act onRelease
 cause-ends t m b w k =
     whole-ends _ m
     (tested (CauseEnds (drop 2 m) w) t m (length b) nothing-shown nothing-shown nothing-shown nothing-shown nothing-shown
-    (λ g. by-type (CauseEnds (drop 2 m) w) _ _ (getD m 1 0) (drop 2 m) nothing-shown (λ n. nothing-shown)
+    (λ g. by-type (CauseEnds (drop 2 m) w) _ _ (getD m 1 0) (drop 2 m) nothing-shown nothing-shown nothing-shown nothing-shown
     (λ _ _ z. taken-ends 0x08 (drop 2 m) w z)
     (λ _ _ z. nothing-shown (sym (four-no-cause _ facilityType (drop 2 m)) ∙ z))
     (λ _ _ z. nothing-shown (sym (four-no-cause _ registerType (drop 2 m)) ∙ z)))

@@ -1,0 +1,13 @@
+-- All of it holds.
+use Rattle.promises.specs.All.{All}
+use Rattle.telephone.proofs.Stands.{stands}
+use Rattle.promises.proofs.OneVerdict.{demand-1}
+use Rattle.promises.proofs.ReadBack.{demand-2}
+use Rattle.promises.proofs.Demand3.{demand-3}
+use Rattle.promises.proofs.Determined.{exact, determined}
+use Rattle.promises.proofs.Worked.{worked}
+use Rattle.promises.proofs.Editions.{editions}
+use Rattle.promises.proofs.NeverDamaged.{never-damaged}
+
+pub all : All
+all = (demand-1, (demand-2, (demand-3, (stands, (exact, (determined, (worked, (editions, never-damaged))))))))

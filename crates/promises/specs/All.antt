@@ -1,0 +1,13 @@
+-- All that is proved of the whole: the three demands of the mission in their order, then what 01 asks besides.
+use Rattle.promises.specs.OneVerdict.{Demand1}
+use Rattle.promises.specs.ReadBack.{Demand2}
+use Rattle.promises.specs.LaterEdition.{Demand3}
+use Rattle.promises.specs.Places.{Places}
+use Rattle.octets.specs.OneAnswer.{Exact}
+use Rattle.promises.specs.Determined.{Determined}
+use Rattle.promises.specs.Worked.{Worked}
+use Rattle.promises.specs.Editions.{Editions}
+use Rattle.promises.specs.NeverDamaged.{NeverDamaged}
+
+abbrev pub All : Type 1
+All = Demand1 × (Demand2 × (Demand3 × (Places × (Exact × (Determined × (Worked × (Editions × NeverDamaged)))))))
