@@ -7,10 +7,7 @@ use native.Mathlib.Omega.{arith}
 use lib.ListN.{length, take, length-append, take-append-drop}
 use Rattle.octets.specs.Splice.{splice}
 use Rattle.octets.proofs.SpliceLaws.{splice-splice}
-
--- a page with text written at a place, and the place behind it
-abbrev pub Wrote : List ℕ → ℕ → List ℕ → List ℕ → ℕ → Type 0
-Wrote page at text after behind = (after ≡ splice page at text) × (behind ≡ at + length text)
+use Rattle.printing.specs.Page.{Wrote}
 
 pub splice-nil : (page : List ℕ) (at : ℕ) → splice page at [] ≡ page
 unfolding splice

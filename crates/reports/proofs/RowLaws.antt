@@ -10,7 +10,8 @@ use lib.ListN.{length, take, drop, length-take, length-drop}
 use Rattle.octets.specs.Part.{between}
 use Rattle.codes.proofs.IdLaws.{asHeld, IsId, held-is}
 use Rattle.printing.specs.Lines.{when, idLine}
-use Rattle.printing.proofs.JoinLaws.{Wrote, join}
+use Rattle.printing.specs.Page.{Wrote}
+use Rattle.printing.proofs.JoinLaws.{join}
 
 pub between-length : (from to : ℕ) (s : List ℕ) → length (between from to s) ≤ length s
 between-length from to s = simp (length-take, length-drop) (omega arith)

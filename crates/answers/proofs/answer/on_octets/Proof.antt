@@ -5,7 +5,7 @@ use native.Mathlib.Omega.{arith}
 use lib.ListN.{length}
 use lib.Seq.{length-take-le}
 use Rattle.words.specs.Hex.{Octets}
-use Rattle.answers.proofs.AnswerLaws.{state, stays, octets-wrong, octets-long, octets-image, octets-call, by-image, by-call, read-is, row-is}
+use Rattle.answers.proofs.AnswerLaws.{state, stays, octets-wrong, octets-long, octets-image, octets-call, by-call, read-is, row-is, same}
 use Rattle.answers.proofs.answer.on_octets.Statement.{statement}
 use Rattle.answers.proofs.answer.on_octets.Tie as tie
 use Rattle.answers.proofs.answer.on_octets.Reads as reads
@@ -87,7 +87,7 @@ returns-3 c =
     let r = read-is (a .line .now) (a .at) _ (c .before .before .before .before .before .before .before .before .before .before .before .before .before .before .part .ensures .0) in
     let e = ap (λ (o : Octets). o .ends) r ∙ sym (x .1 .0) ∙ c .before .before .before .before .before .before .before .before .before .enum-told3 .given .1 in
     let f = ap (λ (o : Octets). o .octets) r ∙ row-is _ _ _ _ (x .0) (x .1 .1 .0) in
-    by-image (a .number) s _ _ (a .space .now) _ (a .page .now) _ _ (octets-image (a .number) (a .line .now) (a .at) (a .command) s (a .is-image) _ (c .before .before .before .before .before .before .before .before .if1 .taken) e f) (c .before .before .before .before .on-image .ensures)
+    same _ _ (a .space .now) _ (a .page .now) _ _ (octets-image (a .number) (a .line .now) (a .at) (a .command) s (a .is-image) _ (c .before .before .before .before .before .before .before .before .if1 .taken) e f) (c .before .before .before .before .on-image .ensures)
 
 array-share-prefix-octets-2 : tie.Need-array-share-prefix-octets-2
 array-share-prefix-octets-2 c = search needs
