@@ -13,7 +13,7 @@ use showing::TextView;
 use telephone::calls::Called;
 use telephone::receive::Received;
 ghost use mathlib.Core.Path.{_≡_};
-ghost use Prim.Native.Nat.{_+_, _*_, _≤_};
+ghost use Prim.Native.Nat.{_+_, _≤_};
 ghost use lib.ListN.{length};
 ghost use Rattle.printing.specs.Page.{WroteWithin, Filled};
 ghost use Rattle.printing.specs.Lines.{when};

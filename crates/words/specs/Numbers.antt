@@ -3,11 +3,9 @@ use Prim.Native.Nat.{ℕ, _+_, _*_, _-_, _%_, _≤_}
 use mathlib.Core.Path.{_≡_}
 use mathlib.Core.List.{List, [], _∷_}
 use mathlib.Core.Bool.{Bool, cond, _&&_}
-use lib.IntN.{ℤ}
 use lib.Dec.{eqb, leb}
 use Rattle.codes.specs.Ids.{idOf}
 use Rattle.words.specs.Words.{wordAt, spelled}
-use Rattle.words.specs.declared.Word.{Word}
 use Rattle.words.specs.declared.Number.{Number}
 use Rattle.words.specs.declared.Number.the-variants.{Nothing, Is}
 use Rattle.words.specs.declared.OctetAt.{OctetAt}
