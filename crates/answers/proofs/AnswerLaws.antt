@@ -2,14 +2,12 @@
 use Prim.Native.Nat.{ℕ, _≤_, _<_}
 use mathlib.Core.Path.{_≡_, refl, sym, ap, _∙_}
 use mathlib.Core.List.{List, [], _∷_, _++_}
-use mathlib.Core.Bool.{Bool, true, false, cond}
+use mathlib.Core.Bool.{Bool, true, false}
 use native.Mathlib.Omega.{arith}
 use lib.ListN.{length, take, drop, replicate}
 use lib.Seq.{length-take-le}
-use lib.Dec.{leb}
 use borrow.Author.Tests.{le-leb, lt-leb, lt-ltb, le-ltb}
 use Rattle.octets.specs.Part.{between}
-use Rattle.octets.specs.Reader.{isEmpty}
 use Rattle.octets.specs.Splice.{splice}
 use Rattle.octets.proofs.PartLaws.{rest-part}
 use Rattle.printing.specs.Lines.{octetsLine, numberLine}
@@ -21,27 +19,23 @@ use Rattle.reports.specs.Words.{tableWord, bufferWord, tableSet}
 use Rattle.answers.specs.declared.answer.Held.{Held}
 use Rattle.answers.specs.declared.answer.Asks.{Asks}
 use Rattle.answers.specs.declared.answer.Asks.the-variants.{Passed, Unclear, Room, Image, Call}
-use Rattle.answers.specs.Answers.{State, Said, says, notUnderstood, tooLong, made, call, image, asksOf, octetsAt, onOctets, byAsks, answer, answerLine, heldOf, Sound}
+use Rattle.answers.specs.Answers.{State, Said, says, notUnderstood, tooLong, made, call, image, asksOf, octetsAt, onOctets, byAsks, answer, answerLine, Makes, Calls, Answers}
 use Rattle.answers.proofs.PageLaws.{front-back, lent-back, front-is}
 
 abbrev pub state : List ℕ → ℕ → ℕ → State
 state space size room = record { table = take size space; room = room }
 
--- what a line's answer leaves in the space of the image and on the page, and what the code holds of it
-abbrev pub Answered : Said → List ℕ → List ℕ → List ℕ → List ℕ → Held → Type 0
-Answered d space image page text h = (image ≡ splice space 0 (d .state .table)) × ((text ≡ splice page 0 (d .text)) × ((h ≡ heldOf d) × Sound h))
-
 -- the image and the room stay
 pub stays : (d : Said) (space page after text : List ℕ) (size room room′ written : ℕ) → d ≡ says text (state space size room′) → length space ≡ 300 → size ≤ 300 → room ≤ 300 → room ≡ room′
     → (after ≡ splice page 0 text) × (written ≡ length text) → written ≤ 70000
-    → Answered d space space page after (record { size = size; room = room; written = written })
+    → Answers d space space page after (record { size = size; room = room; written = written })
 stays d space page after text size room room′ written e l h k same w b =
     rw e (sym (front-back space size (omega arith)), (w .0, (λ i. record { size = sym (length-take-le size space (omega arith)) i; room = same i; written = w .1 i }, (h, (k, b)))))
 
 -- the image is set
 pub sets : (d : Said) (space image page after text p : List ℕ) (room written : ℕ) → d ≡ says text (record { table = p; room = room }) → length p ≤ 300 → room ≤ 300
     → image ≡ splice space 0 p → (after ≡ splice page 0 text) × (written ≡ length text) → written ≤ 70000
-    → Answered d space image page after (record { size = length p; room = room; written = written })
+    → Answers d space image page after (record { size = length p; room = room; written = written })
 sets d space image page after text p room written e h k q w b =
     rw e (q, (w .0, (λ i. record { size = length p; room = room; written = w .1 i }, (h, (k, b)))))
 
@@ -62,51 +56,25 @@ module _ (n : ℕ) (s : State) where
   image-long [] h = absurd (omega arith)
   image-long (a ∷ p) h = rw (lt-leb (length (a ∷ p)) 300 h)
 
-  same-room : (b : Bool) (t d : Said) → t .state .room ≡ s .room → d .state .room ≡ s .room → cond b t d .state .room ≡ s .room
-  same-room true t d h k = h
-  same-room false t d h k = k
-
-  -- the room stays
-  pub image-room : (p : List ℕ) → image n s p .state .room ≡ s .room
-  unfolding image
-  image-room p = same-room (isEmpty p) _ _ refl (same-room (leb (length p) 300) _ _ refl refl)
-
-  pub imaged : (p space image′ page after : List ℕ) (h : Held) → Answered (image n s p) space image′ page after h
-      → (image′ ≡ splice space 0 (image n s p .state .table)) × ((after ≡ splice page 0 (image n s p .text))
-      × ((h ≡ record { size = length (image n s p .state .table); room = s .room; written = length (image n s p .text) }) × Sound h))
-  imaged p space image′ page after h a =
-      (a .0, (a .1 .0, (a .1 .1 .0 ∙ (λ i. record { size = length (image n s p .state .table); room = image-room p i; written = length (image n s p .text) }), a .1 .1 .1)))
-
-  -- an answer of the image as one of the line
-  pub by-image : (d : Said) (p space image′ page after : List ℕ) (h : Held) → d ≡ image n s p
-      → (image′ ≡ splice space 0 (image n s p .state .table)) × ((after ≡ splice page 0 (image n s p .text))
-      × ((h ≡ record { size = length (image n s p .state .table); room = s .room; written = length (image n s p .text) }) × Sound h))
-      → Answered d space image′ page after h
-  by-image d p space image′ page after h e a =
-      rw e (a .0, (a .1 .0, (a .1 .1 .0 ∙ (λ i. record { size = length (image n s p .state .table); room = sym (image-room p) i; written = length (image n s p .text) }), a .1 .1 .1)))
-
 -- a call over a table that is lent
 module _ (c : Command) (space table buffer p page after : List ℕ) (size room r : ℕ) where
   pub lent : size ≤ length space → buffer ≡ replicate room 0 → length table ≡ length (take size space)
-      → (table ≡ made (take size space) buffer p c .table) × ((after ≡ splice page 0 (made (take size space) buffer p c .text)) × ((r ≡ length (made (take size space) buffer p c .text)) × (r ≤ 70000)))
-      → (table ++ drop size space ≡ splice space 0 (call c (state space size room) p .state .table)) × ((after ≡ splice page 0 (call c (state space size room) p .text))
-      × ((r ≡ length (call c (state space size room) p .text)) × ((length (call c (state space size room) p .state .table) ≡ size) × (r ≤ 70000))))
+      → Makes (made (take size space) buffer p c) table page after r
+      → Calls (call c (state space size room) p) size space (table ++ drop size space) page after r
   lent h b k m =
       let l : length table ≡ size = k ∙ length-take-le size space h in
       let e : table ≡ made (take size space) (replicate room 0) p c .table = m .0 ∙ ap (λ (x : List ℕ). made (take size space) x p c .table) b in
       let t : made (take size space) buffer p c .text ≡ made (take size space) (replicate room 0) p c .text = ap (λ (x : List ℕ). made (take size space) x p c .text) b in (
         lent-back space table size l ∙ ap (λ (x : List ℕ). splice space 0 x) e,
-        (m .1 .0 ∙ ap (λ (x : List ℕ). splice page 0 x) t, (m .1 .1 .0 ∙ ap (λ (x : List ℕ). length x) t, (ap (λ (x : List ℕ). length x) (sym e) ∙ l, m .1 .1 .1))),
+        (ap (λ (x : List ℕ). length x) (sym e) ∙ l, (m .1 .0 ∙ ap (λ (x : List ℕ). splice page 0 x) t, (m .1 .1 .0 ∙ ap (λ (x : List ℕ). length x) t, m .1 .1 .1))),
       )
 
 -- an answer of a call as one of the line
 module _ (d : Said) (c : Command) (s : State) (p space image page after : List ℕ) (size room written : ℕ) where
-  pub by-call : d ≡ call c s p → s .room ≡ room → size ≤ 300 → room ≤ 300
-      → (image ≡ splice space 0 (call c s p .state .table)) × ((after ≡ splice page 0 (call c s p .text))
-      × ((written ≡ length (call c s p .text)) × ((length (call c s p .state .table) ≡ size) × (written ≤ 70000))))
-      → Answered d space image page after (record { size = size; room = room; written = written })
+  pub by-call : d ≡ call c s p → s .room ≡ room → size ≤ 300 → room ≤ 300 → Calls (call c s p) size space image page after written
+      → Answers d space image page after (record { size = size; room = room; written = written })
   by-call e f h k a =
-      rw e (a .0, (a .1 .0, ((λ i. record { size = sym (a .1 .1 .1 .0) i; room = sym f i; written = a .1 .1 .0 i }), (h, (k, a .1 .1 .1 .1)))))
+      rw e (a .0, (a .1 .1 .0, ((λ i. record { size = sym (a .1 .0) i; room = sym f i; written = a .1 .1 .1 .0 i }), (h, (k, a .1 .1 .1 .1)))))
 
 module _ (n : ℕ) (line : List ℕ) (at : ℕ) (c : Command) (s : State) where
   pub octets-wrong : (b : Bool) → octetsAt line at .ends ≡ Wrong → onOctets n line at b c s ≡ says (notUnderstood n) s
@@ -133,7 +101,7 @@ pub row-is : (zeros t row : List ℕ) (n : ℕ) → n ≡ length t → row ≡ s
 row-is zeros t row n e f = sym (ap (λ (x : List ℕ). take n x) f ∙ front-is zeros t n e)
 
 -- one answer as another
-pub same : (d e : Said) (space image page after : List ℕ) (h : Held) → d ≡ e → Answered e space image page after h → Answered d space image page after h
+pub same : (d e : Said) (space image page after : List ℕ) (h : Held) → d ≡ e → Answers e space image page after h → Answers d space image page after h
 same d e space image page after h q a = rw q a
 
 module _ (n : ℕ) (line : List ℕ) (s : State) (c : Command) (q : c ≡ commands.command line) where

@@ -1,5 +1,5 @@
 -- A command's call: what it leaves in the table and prints.
-use Prim.Native.Nat.{ℕ, _≤_}
+use Prim.Native.Nat.{ℕ}
 use mathlib.Core.Path.{_≡_, refl, sym, ap, _∙_}
 use mathlib.Core.List.{List}
 use mathlib.Core.Bool.{Bool, true, false}
@@ -8,6 +8,7 @@ use lib.IntN.{ℤ}
 use lib.ListN.{length}
 use Rattle.octets.specs.Splice.{splice}
 use Rattle.codes.proofs.IdLaws.{asHeld, IsId, held-is}
+use Rattle.printing.specs.Page.{Filled}
 use Rattle.printing.proofs.JoinLaws.{splice-nil}
 use Rattle.words.specs.declared.Command.the-variants.{Nothing, Unknown, Receive, Begin, Invoke, Result, Error, Release, Table, Buffer}
 use Rattle.telephone.specs.Outcome.{Outcome}
@@ -17,7 +18,7 @@ use Rattle.telephone.specs.FromC.{receivedOf, calledOf}
 use Rattle.telephone.specs.declared.receive.Received.{Received}
 use Rattle.telephone.specs.declared.calls.Called.{Called}
 use Rattle.reports.specs.Shown.{receivedText, calledText}
-use Rattle.answers.specs.Answers.{Made, received, called, idle, made}
+use Rattle.answers.specs.Answers.{Made, received, called, idle, made, Makes}
 
 -- an id that the code hands on comes back as itself
 module _ (t b p : List ℕ) where
@@ -57,24 +58,20 @@ module _ (t b p : List ℕ) where
   unfolding made
   buffer-made n = refl
 
--- what the code leaves and answers, as the definition has it
-abbrev pub Makes : Made → List ℕ → List ℕ → List ℕ → ℕ → Type 0
-Makes m page table after r = (table ≡ m .table) × ((after ≡ splice page 0 (m .text)) × ((r ≡ length (m .text)) × (r ≤ 70000)))
-
 module _ (m : Made) (page table buffer after : List ℕ) (r : ℕ) (o : Outcome) where
   pub makes-call : (begins : Bool) (k : Called) → m ≡ called begins o → (k ≡ calledOf o) × ((buffer ≡ o .buffer) × (table ≡ o .table))
-      → (after ≡ splice page 0 (calledText begins buffer k)) × ((r ≡ length (calledText begins buffer k)) × (r ≤ 70000))
-      → Makes m page table after r
+      → Filled 70000 page (calledText begins buffer k) after r
+      → Makes m table page after r
   makes-call begins k e s w =
       let x : calledText begins buffer k ≡ m .text = (λ i. calledText begins (s .1 .0 i) (s .0 i)) ∙ ap (λ (d : Made). d .text) (sym e) in
       (s .1 .1 ∙ ap (λ (d : Made). d .table) (sym e), (w .0 ∙ ap (λ (y : List ℕ). splice page 0 y) x, (w .1 .0 ∙ ap (λ (y : List ℕ). length y) x, w .1 .1)))
 
   pub makes-receive : (p : List ℕ) (k : Received) → m ≡ received p o → (k ≡ receivedOf (length p) o) × ((buffer ≡ o .buffer) × (table ≡ o .table))
-      → (after ≡ splice page 0 (receivedText p buffer k)) × ((r ≡ length (receivedText p buffer k)) × (r ≤ 70000))
-      → Makes m page table after r
+      → Filled 70000 page (receivedText p buffer k) after r
+      → Makes m table page after r
   makes-receive p k e s w =
       let x : receivedText p buffer k ≡ m .text = (λ i. receivedText p (s .1 .0 i) (s .0 i)) ∙ ap (λ (d : Made). d .text) (sym e) in
       (s .1 .1 ∙ ap (λ (d : Made). d .table) (sym e), (w .0 ∙ ap (λ (y : List ℕ). splice page 0 y) x, (w .1 .0 ∙ ap (λ (y : List ℕ). length y) x, w .1 .1)))
 
-pub makes-none : (m : Made) (page table : List ℕ) → m ≡ idle table → Makes m page table page 0
+pub makes-none : (m : Made) (page table : List ℕ) → m ≡ idle table → Makes m table page page 0
 makes-none m page table e = rw e (refl, (sym (splice-nil page 0), (refl, omega arith)))

@@ -21,7 +21,7 @@ use Rattle.reports.proofs.FortyLaws.{received-forty, called-forty}
 use Rattle.answers.specs.Lines.{longest}
 use Rattle.answers.specs.declared.answer.Asks.{Asks}
 use Rattle.answers.specs.declared.answer.Asks.the-variants.{Passed, Unclear, Room, Image, Call}
-use Rattle.answers.specs.Answers.{State, Said, says, notUnderstood, tooLong, made, call, image, asksOf, ended, octetsAt, onOctets, byAsks, answer, answerLine}
+use Rattle.answers.specs.Answers.{State, Said, says, notUnderstood, tooLong, made, image, asksOf, ended, octetsAt, onOctets, byAsks, answer, answerLine}
 
 nothing : forty [] ≡ true
 unfolding forty fortyFrom

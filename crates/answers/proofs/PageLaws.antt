@@ -8,7 +8,8 @@ use lib.ListN.{length, take, drop, replicate, length-replicate, take-append-drop
 use lib.Seq.{length-take-le, take-append-seam}
 use Rattle.octets.specs.Splice.{splice}
 use Rattle.octets.proofs.SpliceLaws.{splice-front}
-use Rattle.printing.proofs.JoinLaws.{Wrote, join}
+use Rattle.printing.specs.Page.{Wrote}
+use Rattle.printing.proofs.JoinLaws.{join}
 
 -- a front put back as it was
 pub front-back : (s : List ℕ) (n : ℕ) → n ≤ length s → splice s 0 (take n s) ≡ s

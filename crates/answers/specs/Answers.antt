@@ -1,10 +1,13 @@
 -- The bench: each line's answer, and what it leaves for the lines behind it.
 use Prim.Native.Nat.{ℕ, _≤_}
+use mathlib.Core.Path.{_≡_}
 use mathlib.Core.List.{List, [], _∷_, _++_}
 use mathlib.Core.Bool.{Bool, true, false, cond}
 use lib.ListN.{length, take, drop, replicate}
 use lib.Dec.{leb, ltb}
 use Rattle.octets.specs.Reader.{isEmpty}
+use Rattle.octets.specs.Splice.{splice}
+use Rattle.printing.specs.Page.{Filled}
 use Rattle.printing.specs.Numbers.{decimal}
 use Rattle.printing.specs.Lines.{octetsLine, numberLine}
 use Rattle.words.specs.Hex.{Octets, hex}
@@ -125,9 +128,27 @@ answer n line s = byAsks n line (commands.command line) s (asksOf (length line) 
 unfoldable pub answerLine : ℕ → List ℕ → ℕ → State → Said
 answerLine n line have s = cond (ltb longest have) (says (tooLong n) s) (answer n (take have line) s)
 
--- what the code holds of it
+-- what the code holds from line to line, as a state: the image stands at the front of its space
+abbrev pub stateOf : List ℕ → Held → State
+stateOf space held = record { table = take (held .size) space; room = held .room }
+
+-- what the code holds of an answer
 abbrev pub heldOf : Said → Held
 heldOf d = record { size = length (d .state .table); room = d .state .room; written = length (d .text) }
 
 abbrev pub Sound : Held → Type 0
 Sound h = (h .size ≤ 300) × ((h .room ≤ 300) × (h .written ≤ 70000))
+
+-- What is promised of a call that is made: the table afterwards, and the text at the start of the page.
+abbrev pub Makes : Made → List ℕ → List ℕ → List ℕ → ℕ → Type 0
+Makes m table page after written = (table ≡ m .table) × Filled 70000 page (m .text) after written
+
+-- of one over the image in its space: the image is as long as it was
+abbrev pub Calls : Said → ℕ → List ℕ → List ℕ → List ℕ → List ℕ → ℕ → Type 0
+Calls said size space image page after written =
+    (image ≡ splice space 0 (said .state .table)) × ((length (said .state .table) ≡ size) × Filled 70000 page (said .text) after written)
+
+-- of an answer: what it says of the image and in its text, and what the code holds of both
+abbrev pub Answers : Said → List ℕ → List ℕ → List ℕ → List ℕ → Held → Type 0
+Answers said space image page after held =
+    (image ≡ splice space 0 (said .state .table)) × ((after ≡ splice page 0 (said .text)) × ((held ≡ heldOf said) × Sound held))

@@ -8,10 +8,10 @@ use reports::shown::received_text;
 use words::Command;
 use words::Ending;
 ghost use mathlib.Core.Path.{_≡_};
-ghost use Prim.Native.Nat.{_+_, _≤_};
-ghost use lib.ListN.{length, take};
-ghost use Rattle.octets.specs.Splice.{splice};
-ghost use Rattle.answers.specs.Answers.{notUnderstood, tooLong, made, call, image, asksOf, onOctets, heldOf, Sound, answer, answerLine};
+ghost use Prim.Native.Nat.{_≤_};
+ghost use lib.ListN.{length};
+ghost use Rattle.printing.specs.Page.{Filled};
+ghost use Rattle.answers.specs.Answers.{notUnderstood, tooLong, made, call, image, asksOf, onOctets, answer, answerLine, stateOf, Makes, Calls, Answers};
 
 // What a command asks for; octets in hex begin at a place of the line.
 pub enum Asks {
@@ -89,9 +89,7 @@ fn asks_of(end: usize, command: Command) -> Asks
 
 fn not_understood(page: &mut [u8], number: u64) -> usize
     requires { ⌜ 64 ≤ length (now page) ⌝ }
-    ensures writes { λ _. ⌜ now (page .exit) ≡ splice (now (page .entry)) 0 (notUnderstood number) ⌝ }
-    ensures next { λ r. ⌜ r ≡ length (notUnderstood number) ⌝ }
-    ensures within { λ r. ⌜ r ≤ 64 ⌝ }
+    ensures { λ r. ⌜ Filled 64 (now (page .entry)) (notUnderstood number) (now (page .exit)) r ⌝ }
 {
     let a = put_words(page, 0, b"line ");
     let b = put_decimal(page, a, number);
@@ -100,9 +98,7 @@ fn not_understood(page: &mut [u8], number: u64) -> usize
 
 fn too_long(page: &mut [u8], number: u64) -> usize
     requires { ⌜ 64 ≤ length (now page) ⌝ }
-    ensures writes { λ _. ⌜ now (page .exit) ≡ splice (now (page .entry)) 0 (tooLong number) ⌝ }
-    ensures next { λ r. ⌜ r ≡ length (tooLong number) ⌝ }
-    ensures within { λ r. ⌜ r ≤ 64 ⌝ }
+    ensures { λ r. ⌜ Filled 64 (now (page .entry)) (tooLong number) (now (page .exit)) r ⌝ }
 {
     let behind = put_words(page, 0, b"line ");
     let end = put_decimal(page, behind, number);
@@ -118,10 +114,8 @@ fn make(
     page: &mut [u8],
 ) -> usize
     requires { ⌜ (length (now octets) ≤ 4096) × ((length (now buffer) ≤ 300) × (70000 ≤ length (now page))) ⌝ }
-    ensures table { λ _. ⌜ now (table .exit) ≡ made (now (table .entry)) (now (buffer .entry)) (now (octets .entry)) command .table ⌝ }
-    ensures writes { λ _. ⌜ now (page .exit) ≡ splice (now (page .entry)) 0 (made (now (table .entry)) (now (buffer .entry)) (now (octets .entry)) command .text) ⌝ }
-    ensures next { λ r. ⌜ r ≡ length (made (now (table .entry)) (now (buffer .entry)) (now (octets .entry)) command .text) ⌝ }
-    ensures within { λ r. ⌜ r ≤ 70000 ⌝ }
+    ensures { λ r. ⌜ Makes (made (now (table .entry)) (now (buffer .entry)) (now (octets .entry)) command)
+        (now (table .exit)) (now (page .entry)) (now (page .exit)) r ⌝ }
 {
     match command {
         Command::Receive { at: _ } => {
@@ -195,10 +189,8 @@ fn make(
 // Prints the image, or sets it.
 fn on_image(space: &mut [u8], held: Held, octets: &[u8], number: u64, page: &mut [u8]) -> Held
     requires { ⌜ (length (now space) ≡ 300) × ((held .size ≤ 300) × ((held .room ≤ 300) × (70000 ≤ length (now page)))) ⌝ }
-    ensures image { λ _. ⌜ now (space .exit) ≡ splice (now (space .entry)) 0 (image number (record { table = take (held .size) (now (space .entry)); room = held .room }) (now (octets .entry)) .state .table) ⌝ }
-    ensures writes { λ _. ⌜ now (page .exit) ≡ splice (now (page .entry)) 0 (image number (record { table = take (held .size) (now (space .entry)); room = held .room }) (now (octets .entry)) .text) ⌝ }
-    ensures held { λ r. ⌜ r ≡ record { size = length (image number (record { table = take (held .size) (now (space .entry)); room = held .room }) (now (octets .entry)) .state .table); room = held .room; written = length (image number (record { table = take (held .size) (now (space .entry)); room = held .room }) (now (octets .entry)) .text) } ⌝ }
-    ensures within { λ r. ⌜ Sound r ⌝ }
+    ensures { λ r. ⌜ Answers (image number (stateOf (now (space .entry)) held) (now (octets .entry)))
+        (now (space .entry)) (now (space .exit)) (now (page .entry)) (now (page .exit)) r ⌝ }
 {
     let size = held.size;
     let room = held.room;
@@ -231,11 +223,8 @@ fn on_image(space: &mut [u8], held: Held, octets: &[u8], number: u64, page: &mut
 // Makes a call over the image, with a cleared buffer.
 fn on_call(space: &mut [u8], held: Held, octets: &[u8], command: Command, page: &mut [u8]) -> usize
     requires { ⌜ (length (now space) ≡ 300) × ((held .size ≤ 300) × ((held .room ≤ 300) × ((length (now octets) ≤ 4096) × (70000 ≤ length (now page))))) ⌝ }
-    ensures image { λ _. ⌜ now (space .exit) ≡ splice (now (space .entry)) 0 (call command (record { table = take (held .size) (now (space .entry)); room = held .room }) (now (octets .entry)) .state .table) ⌝ }
-    ensures writes { λ _. ⌜ now (page .exit) ≡ splice (now (page .entry)) 0 (call command (record { table = take (held .size) (now (space .entry)); room = held .room }) (now (octets .entry)) .text) ⌝ }
-    ensures next { λ r. ⌜ r ≡ length (call command (record { table = take (held .size) (now (space .entry)); room = held .room }) (now (octets .entry)) .text) ⌝ }
-    ensures size { λ _. ⌜ length (call command (record { table = take (held .size) (now (space .entry)); room = held .room }) (now (octets .entry)) .state .table) ≡ held .size ⌝ }
-    ensures within { λ r. ⌜ r ≤ 70000 ⌝ }
+    ensures { λ r. ⌜ Calls (call command (stateOf (now (space .entry)) held) (now (octets .entry))) (held .size)
+        (now (space .entry)) (now (space .exit)) (now (page .entry)) (now (page .exit)) r ⌝ }
 {
     let size = held.size;
     let room = held.room;
@@ -261,10 +250,8 @@ fn on_octets(
     page: &mut [u8],
 ) -> Held
     requires { ⌜ (length (now space) ≡ 300) × ((held .size ≤ 300) × ((held .room ≤ 300) × (70000 ≤ length (now page)))) ⌝ }
-    ensures image { λ _. ⌜ now (space .exit) ≡ splice (now (space .entry)) 0 (onOctets number (now (line .entry)) at «is_image» command (record { table = take (held .size) (now (space .entry)); room = held .room }) .state .table) ⌝ }
-    ensures writes { λ _. ⌜ now (page .exit) ≡ splice (now (page .entry)) 0 (onOctets number (now (line .entry)) at «is_image» command (record { table = take (held .size) (now (space .entry)); room = held .room }) .text) ⌝ }
-    ensures held { λ r. ⌜ r ≡ heldOf (onOctets number (now (line .entry)) at «is_image» command (record { table = take (held .size) (now (space .entry)); room = held .room })) ⌝ }
-    ensures within { λ r. ⌜ Sound r ⌝ }
+    ensures { λ r. ⌜ Answers (onOctets number (now (line .entry)) at «is_image» command (stateOf (now (space .entry)) held))
+        (now (space .entry)) (now (space .exit)) (now (page .entry)) (now (page .exit)) r ⌝ }
 {
     let size = held.size;
     let room = held.room;
@@ -306,10 +293,8 @@ fn on_octets(
 // A line's answer.
 fn answer(line: &[u8], number: u64, space: &mut [u8], held: Held, page: &mut [u8]) -> Held
     requires { ⌜ (length (now space) ≡ 300) × ((held .size ≤ 300) × ((held .room ≤ 300) × (70000 ≤ length (now page)))) ⌝ }
-    ensures image { λ _. ⌜ now (space .exit) ≡ splice (now (space .entry)) 0 (answer number (now (line .entry)) (record { table = take (held .size) (now (space .entry)); room = held .room }) .state .table) ⌝ }
-    ensures writes { λ _. ⌜ now (page .exit) ≡ splice (now (page .entry)) 0 (answer number (now (line .entry)) (record { table = take (held .size) (now (space .entry)); room = held .room }) .text) ⌝ }
-    ensures held { λ r. ⌜ r ≡ heldOf (answer number (now (line .entry)) (record { table = take (held .size) (now (space .entry)); room = held .room })) ⌝ }
-    ensures within { λ r. ⌜ Sound r ⌝ }
+    ensures { λ r. ⌜ Answers (answer number (now (line .entry)) (stateOf (now (space .entry)) held))
+        (now (space .entry)) (now (space .exit)) (now (page .entry)) (now (page .exit)) r ⌝ }
 {
     let size = held.size;
     let room = held.room;
@@ -359,10 +344,8 @@ pub fn answer_line(
     page: &mut [u8],
 ) -> Held
     requires { ⌜ (length (now line) ≡ 16384) × ((length (now space) ≡ 300) × ((held .size ≤ 300) × ((held .room ≤ 300) × (70000 ≤ length (now page))))) ⌝ }
-    ensures image { λ _. ⌜ now (space .exit) ≡ splice (now (space .entry)) 0 (answerLine number (now (line .entry)) have (record { table = take (held .size) (now (space .entry)); room = held .room }) .state .table) ⌝ }
-    ensures writes { λ _. ⌜ now (page .exit) ≡ splice (now (page .entry)) 0 (answerLine number (now (line .entry)) have (record { table = take (held .size) (now (space .entry)); room = held .room }) .text) ⌝ }
-    ensures held { λ r. ⌜ r ≡ heldOf (answerLine number (now (line .entry)) have (record { table = take (held .size) (now (space .entry)); room = held .room })) ⌝ }
-    ensures within { λ r. ⌜ Sound r ⌝ }
+    ensures { λ r. ⌜ Answers (answerLine number (now (line .entry)) have (stateOf (now (space .entry)) held))
+        (now (space .entry)) (now (space .exit)) (now (page .entry)) (now (page .exit)) r ⌝ }
 {
     if 16384 < have {
         let size = held.size;

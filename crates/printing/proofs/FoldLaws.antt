@@ -12,7 +12,8 @@ use Rattle.octets.specs.Splice.{splice}
 use Rattle.octets.proofs.SpliceLaws.{splice-splice}
 use Rattle.printing.specs.Numbers.{pair}
 use Rattle.printing.specs.Lines.{nextText, nextColumn, folded}
-use Rattle.printing.proofs.JoinLaws.{Wrote, splice-nil}
+use Rattle.printing.specs.Page.{Wrote}
+use Rattle.printing.proofs.JoinLaws.{splice-nil}
 
 next-length : (b : Bool) (octet : ℕ) → length (cond b (10 ∷ 32 ∷ pair octet) (32 ∷ pair octet)) ≤ 4
 unfolding pair

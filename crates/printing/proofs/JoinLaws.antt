@@ -1,5 +1,5 @@
 -- Text written piece by piece at a place of a page.
-use Prim.Native.Nat.{ℕ, _+_, _≤_}
+use Prim.Native.Nat.{ℕ, _≤_}
 use mathlib.Core.Path.{_≡_, sym, _∙_}
 use mathlib.Core.List.{List, [], _∷_, _++_, append-nil}
 use native.Mathlib.Nat.{add-zero}
@@ -7,10 +7,7 @@ use native.Mathlib.Omega.{arith}
 use lib.ListN.{length, take, length-append, take-append-drop}
 use Rattle.octets.specs.Splice.{splice}
 use Rattle.octets.proofs.SpliceLaws.{splice-splice}
-
--- a page with text written at a place, and the place behind it
-abbrev pub Wrote : List ℕ → ℕ → List ℕ → List ℕ → ℕ → Type 0
-Wrote page at text after behind = (after ≡ splice page at text) × (behind ≡ at + length text)
+use Rattle.printing.specs.Page.{Wrote}
 
 pub splice-nil : (page : List ℕ) (at : ℕ) → splice page at [] ≡ page
 unfolding splice

@@ -6,15 +6,13 @@ use crate::numbers::put_words;
 ghost use mathlib.Core.Path.{_≡_};
 ghost use Prim.Native.Nat.{_+_, _*_, _≤_};
 ghost use lib.ListN.{length};
-ghost use Rattle.octets.specs.Splice.{splice};
+ghost use Rattle.printing.specs.Page.{WroteWithin};
 ghost use Rattle.printing.specs.Lines.{nextText, nextColumn, folded, when, octetsLine, numberLine, idLine, problemLine};
 
 // One octet more in a line that has so many characters.
 fn put_next(page: &mut [u8], at: usize, column: usize, octet: u8) -> usize
     requires { ⌜ at + 4 ≤ length (now page) ⌝ }
-    ensures writes { λ _. ⌜ now (page .exit) ≡ splice (now (page .entry)) at (nextText column octet) ⌝ }
-    ensures next { λ r. ⌜ r ≡ at + length (nextText column octet) ⌝ }
-    ensures within { λ r. ⌜ r ≤ at + 4 ⌝ }
+    ensures { λ r. ⌜ WroteWithin 4 (now (page .entry)) at (nextText column octet) (now (page .exit)) r ⌝ }
 {
     if 37 < column {
         let place = put_words(page, at, b"\n ");
@@ -36,9 +34,7 @@ fn next_column(column: usize) -> usize
 // Octets behind so many characters of a line, folded at forty.
 fn put_folded(page: &mut [u8], at: usize, column: usize, octets: &[u8]) -> usize
     requires { ⌜ at + 4 * length (now octets) ≤ length (now page) ⌝ }
-    ensures writes { λ _. ⌜ now (page .exit) ≡ splice (now (page .entry)) at (folded column (now (octets .entry))) ⌝ }
-    ensures next { λ r. ⌜ r ≡ at + length (folded column (now (octets .entry))) ⌝ }
-    ensures within { λ r. ⌜ r ≤ at + 4 * length (now (octets .entry)) ⌝ }
+    ensures { λ r. ⌜ WroteWithin (4 * length (now (octets .entry))) (now (page .entry)) at (folded column (now (octets .entry))) (now (page .exit)) r ⌝ }
 {
     let mut place = at;
     let mut width = column;
@@ -54,9 +50,8 @@ fn put_folded(page: &mut [u8], at: usize, column: usize, octets: &[u8]) -> usize
 // A word and octets.
 pub fn octets_line(page: &mut [u8], at: usize, there: bool, word: &[u8], octets: &[u8]) -> usize
     requires { ⌜ (length (now word) ≤ 16) × (at + 4 * length (now octets) + 64 ≤ length (now page)) ⌝ }
-    ensures writes { λ _. ⌜ now (page .exit) ≡ splice (now (page .entry)) at (when there (octetsLine (now (word .entry)) (now (octets .entry)))) ⌝ }
-    ensures next { λ r. ⌜ r ≡ at + length (when there (octetsLine (now (word .entry)) (now (octets .entry)))) ⌝ }
-    ensures within { λ r. ⌜ r ≤ at + 4 * length (now (octets .entry)) + 64 ⌝ }
+    ensures { λ r. ⌜ WroteWithin (4 * length (now (octets .entry)) + 64) (now (page .entry)) at
+        (when there (octetsLine (now (word .entry)) (now (octets .entry)))) (now (page .exit)) r ⌝ }
 {
     if !there {
         return at;
@@ -69,9 +64,7 @@ pub fn octets_line(page: &mut [u8], at: usize, there: bool, word: &[u8], octets:
 // A word and a number.
 pub fn number_line(page: &mut [u8], at: usize, there: bool, word: &[u8], n: u64) -> usize
     requires { ⌜ (length (now word) ≤ 16) × (at + 64 ≤ length (now page)) ⌝ }
-    ensures writes { λ _. ⌜ now (page .exit) ≡ splice (now (page .entry)) at (when there (numberLine (now (word .entry)) n)) ⌝ }
-    ensures next { λ r. ⌜ r ≡ at + length (when there (numberLine (now (word .entry)) n)) ⌝ }
-    ensures within { λ r. ⌜ r ≤ at + 64 ⌝ }
+    ensures { λ r. ⌜ WroteWithin 64 (now (page .entry)) at (when there (numberLine (now (word .entry)) n)) (now (page .exit)) r ⌝ }
 {
     if !there {
         return at;
@@ -85,9 +78,7 @@ pub fn number_line(page: &mut [u8], at: usize, there: bool, word: &[u8], n: u64)
 // A word and an id.
 pub fn id_line(page: &mut [u8], at: usize, there: bool, word: &[u8], id: i8) -> usize
     requires { ⌜ (length (now word) ≤ 16) × (at + 64 ≤ length (now page)) ⌝ }
-    ensures writes { λ _. ⌜ now (page .exit) ≡ splice (now (page .entry)) at (when there (idLine (now (word .entry)) id)) ⌝ }
-    ensures next { λ r. ⌜ r ≡ at + length (when there (idLine (now (word .entry)) id)) ⌝ }
-    ensures within { λ r. ⌜ r ≤ at + 64 ⌝ }
+    ensures { λ r. ⌜ WroteWithin 64 (now (page .entry)) at (when there (idLine (now (word .entry)) id)) (now (page .exit)) r ⌝ }
 {
     if !there {
         return at;
@@ -101,9 +92,7 @@ pub fn id_line(page: &mut [u8], at: usize, there: bool, word: &[u8], id: i8) -> 
 // A problem's tag, in hex, and its number.
 pub fn problem_line(page: &mut [u8], at: usize, there: bool, tag: u8, problem: u8) -> usize
     requires { ⌜ at + 64 ≤ length (now page) ⌝ }
-    ensures writes { λ _. ⌜ now (page .exit) ≡ splice (now (page .entry)) at (when there (problemLine tag problem)) ⌝ }
-    ensures next { λ r. ⌜ r ≡ at + length (when there (problemLine tag problem)) ⌝ }
-    ensures within { λ r. ⌜ r ≤ at + 64 ⌝ }
+    ensures { λ r. ⌜ WroteWithin 64 (now (page .entry)) at (when there (problemLine tag problem)) (now (page .exit)) r ⌝ }
 {
     if !there {
         return at;

@@ -3,12 +3,12 @@ ghost use mathlib.Core.Path.{_≡_};
 ghost use Prim.Native.Nat.{_+_, _≤_, _<_};
 ghost use lib.ListN.{length};
 ghost use Rattle.octets.specs.Splice.{splice};
+ghost use Rattle.printing.specs.Page.{Wrote, WroteWithin};
 ghost use Rattle.printing.specs.Numbers.{decimal, idText, glyph, pair};
 
 pub fn put_words(page: &mut [u8], at: usize, words: &[u8]) -> usize
     requires { ⌜ at + length (now words) ≤ length (now page) ⌝ }
-    ensures writes { λ _. ⌜ now (page .exit) ≡ splice (now (page .entry)) at (now (words .entry)) ⌝ }
-    ensures next { λ r. ⌜ r ≡ at + length (now (words .entry)) ⌝ }
+    ensures { λ r. ⌜ Wrote (now (page .entry)) at (now (words .entry)) (now (page .exit)) r ⌝ }
 {
     octets::put(page, at, words);
     at + words.len()
@@ -16,9 +16,7 @@ pub fn put_words(page: &mut [u8], at: usize, words: &[u8]) -> usize
 
 pub fn put_decimal(page: &mut [u8], at: usize, n: u64) -> usize
     requires { ⌜ at + 20 ≤ length (now page) ⌝ }
-    ensures writes { λ _. ⌜ now (page .exit) ≡ splice (now (page .entry)) at (decimal n) ⌝ }
-    ensures next { λ r. ⌜ r ≡ at + length (decimal n) ⌝ }
-    ensures within { λ r. ⌜ r ≤ at + 20 ⌝ }
+    ensures { λ r. ⌜ WroteWithin 20 (now (page .entry)) at (decimal n) (now (page .exit)) r ⌝ }
 {
     let mut digits = [0u8; 20];
     let count = io::decimal(n, &mut digits);
@@ -27,9 +25,7 @@ pub fn put_decimal(page: &mut [u8], at: usize, n: u64) -> usize
 
 pub fn put_id(page: &mut [u8], at: usize, id: i8) -> usize
     requires { ⌜ at + 21 ≤ length (now page) ⌝ }
-    ensures writes { λ _. ⌜ now (page .exit) ≡ splice (now (page .entry)) at (idText id) ⌝ }
-    ensures next { λ r. ⌜ r ≡ at + length (idText id) ⌝ }
-    ensures within { λ r. ⌜ r ≤ at + 21 ⌝ }
+    ensures { λ r. ⌜ WroteWithin 21 (now (page .entry)) at (idText id) (now (page .exit)) r ⌝ }
 {
     let octet = codes::ids::octet_of(id) as u64;
     if octet < 128 {

@@ -1,16 +1,17 @@
 -- Texts written in a row, one directly behind another, and how long a part of a list is.
-use Prim.Native.Nat.{ℕ, _+_, _-_, _≤_}
+use Prim.Native.Nat.{ℕ, _≤_}
 use mathlib.Core.Path.{_≡_}
 use mathlib.Core.List.{List, _++_}
 use mathlib.Core.Bool.{Bool}
 use native.Mathlib.Nat.{sub-zero}
 use native.Mathlib.Omega.{arith}
 use lib.IntN.{ℤ}
-use lib.ListN.{length, take, drop, length-take, length-drop}
+use lib.ListN.{length, take, length-take, length-drop}
 use Rattle.octets.specs.Part.{between}
 use Rattle.codes.proofs.IdLaws.{asHeld, IsId, held-is}
 use Rattle.printing.specs.Lines.{when, idLine}
-use Rattle.printing.proofs.JoinLaws.{Wrote, join}
+use Rattle.printing.specs.Page.{Wrote}
+use Rattle.printing.proofs.JoinLaws.{join}
 
 pub between-length : (from to : ℕ) (s : List ℕ) → length (between from to s) ≤ length s
 between-length from to s = simp (length-take, length-drop) (omega arith)

@@ -1,7 +1,7 @@
 -- What is printed of a received message and of a call, line by line.
 use Prim.Native.Nat.{ℕ}
 use mathlib.Core.List.{List, [], _∷_, _++_}
-use mathlib.Core.Bool.{Bool, cond, not, _&&_}
+use mathlib.Core.Bool.{Bool, not, _&&_}
 use lib.ListN.{take}
 use lib.Dec.{eqb, ltb}
 use Rattle.octets.specs.Part.{between}

@@ -13,18 +13,16 @@ use showing::TextView;
 use telephone::calls::Called;
 use telephone::receive::Received;
 ghost use mathlib.Core.Path.{_≡_};
-ghost use Prim.Native.Nat.{_+_, _*_, _≤_};
+ghost use Prim.Native.Nat.{_+_, _≤_};
 ghost use lib.ListN.{length};
-ghost use Rattle.octets.specs.Splice.{splice};
+ghost use Rattle.printing.specs.Page.{WroteWithin, Filled};
 ghost use Rattle.printing.specs.Lines.{when};
 ghost use Rattle.reports.specs.Shown.{cut, kindLines, numberLines, parameterLine, textLines, causeLine, writtenLine, receivedText, calledText};
 
 // Words that may be left out.
 fn words_line(page: &mut [u8], at: usize, there: bool, words: &[u8]) -> usize
     requires { ⌜ (length (now words) ≤ 64) × (at + 64 ≤ length (now page)) ⌝ }
-    ensures writes { λ _. ⌜ now (page .exit) ≡ splice (now (page .entry)) at (when there (now (words .entry))) ⌝ }
-    ensures next { λ r. ⌜ r ≡ at + length (when there (now (words .entry))) ⌝ }
-    ensures within { λ r. ⌜ r ≤ at + 64 ⌝ }
+    ensures { λ r. ⌜ WroteWithin 64 (now (page .entry)) at (when there (now (words .entry))) (now (page .exit)) r ⌝ }
 {
     if !there {
         return at;
@@ -42,9 +40,7 @@ fn part_of(message: &[u8], span: Span) -> &[u8]
 
 fn kind_lines(page: &mut [u8], at: usize, view: ComponentView) -> usize
     requires { ⌜ at + 320 ≤ length (now page) ⌝ }
-    ensures writes { λ _. ⌜ now (page .exit) ≡ splice (now (page .entry)) at (kindLines view) ⌝ }
-    ensures next { λ r. ⌜ r ≡ at + length (kindLines view) ⌝ }
-    ensures within { λ r. ⌜ r ≤ at + 320 ⌝ }
+    ensures { λ r. ⌜ WroteWithin 320 (now (page .entry)) at (kindLines view) (now (page .exit)) r ⌝ }
 {
     let kind = view.kind;
     let has_id = view.has_id;
@@ -58,9 +54,7 @@ fn kind_lines(page: &mut [u8], at: usize, view: ComponentView) -> usize
 
 fn number_lines(page: &mut [u8], at: usize, view: ComponentView) -> usize
     requires { ⌜ at + 256 ≤ length (now page) ⌝ }
-    ensures writes { λ _. ⌜ now (page .exit) ≡ splice (now (page .entry)) at (numberLines view) ⌝ }
-    ensures next { λ r. ⌜ r ≡ at + length (numberLines view) ⌝ }
-    ensures within { λ r. ⌜ r ≤ at + 256 ⌝ }
+    ensures { λ r. ⌜ WroteWithin 256 (now (page .entry)) at (numberLines view) (now (page .exit)) r ⌝ }
 {
     let kind = view.kind;
     let a = id_line(page, at, view.has_linked, b"linked", view.linked);
@@ -77,9 +71,7 @@ fn number_lines(page: &mut [u8], at: usize, view: ComponentView) -> usize
 
 fn parameter_line(page: &mut [u8], at: usize, message: &[u8], view: ComponentView) -> usize
     requires { ⌜ (length (now message) ≤ 4096) × (at + 16448 ≤ length (now page)) ⌝ }
-    ensures writes { λ _. ⌜ now (page .exit) ≡ splice (now (page .entry)) at (parameterLine (now (message .entry)) view) ⌝ }
-    ensures next { λ r. ⌜ r ≡ at + length (parameterLine (now (message .entry)) view) ⌝ }
-    ensures within { λ r. ⌜ r ≤ at + 16448 ⌝ }
+    ensures { λ r. ⌜ WroteWithin 16448 (now (page .entry)) at (parameterLine (now (message .entry)) view) (now (page .exit)) r ⌝ }
 {
     let span = view.parameter;
     octets_line(
@@ -93,9 +85,7 @@ fn parameter_line(page: &mut [u8], at: usize, message: &[u8], view: ComponentVie
 
 fn text_lines(page: &mut [u8], at: usize, message: &[u8], view: TextView) -> usize
     requires { ⌜ (length (now message) ≤ 4096) × (at + 33000 ≤ length (now page)) ⌝ }
-    ensures writes { λ _. ⌜ now (page .exit) ≡ splice (now (page .entry)) at (textLines (now (message .entry)) view) ⌝ }
-    ensures next { λ r. ⌜ r ≡ at + length (textLines (now (message .entry)) view) ⌝ }
-    ensures within { λ r. ⌜ r ≤ at + 33000 ⌝ }
+    ensures { λ r. ⌜ WroteWithin 33000 (now (page .entry)) at (textLines (now (message .entry)) view) (now (page .exit)) r ⌝ }
 {
     let there = view.is_there;
     let scheme = [view.scheme];
@@ -108,9 +98,7 @@ fn text_lines(page: &mut [u8], at: usize, message: &[u8], view: TextView) -> usi
 
 fn cause_line(page: &mut [u8], at: usize, message: &[u8], view: CauseView) -> usize
     requires { ⌜ (length (now message) ≤ 4096) × (at + 16448 ≤ length (now page)) ⌝ }
-    ensures writes { λ _. ⌜ now (page .exit) ≡ splice (now (page .entry)) at (causeLine (now (message .entry)) view) ⌝ }
-    ensures next { λ r. ⌜ r ≡ at + length (causeLine (now (message .entry)) view) ⌝ }
-    ensures within { λ r. ⌜ r ≤ at + 16448 ⌝ }
+    ensures { λ r. ⌜ WroteWithin 16448 (now (page .entry)) at (causeLine (now (message .entry)) view) (now (page .exit)) r ⌝ }
 {
     let contents = view.contents;
     octets_line(
@@ -125,9 +113,7 @@ fn cause_line(page: &mut [u8], at: usize, message: &[u8], view: CauseView) -> us
 // What is to be sent: the front of the buffer.
 fn written_line(page: &mut [u8], at: usize, word: &[u8], written: usize, buffer: &[u8]) -> usize
     requires { ⌜ (length (now word) ≤ 16) × ((length (now buffer) ≤ 300) × (at + 1264 ≤ length (now page))) ⌝ }
-    ensures writes { λ _. ⌜ now (page .exit) ≡ splice (now (page .entry)) at (writtenLine (now (word .entry)) written (now (buffer .entry))) ⌝ }
-    ensures next { λ r. ⌜ r ≡ at + length (writtenLine (now (word .entry)) written (now (buffer .entry))) ⌝ }
-    ensures within { λ r. ⌜ r ≤ at + 1264 ⌝ }
+    ensures { λ r. ⌜ WroteWithin 1264 (now (page .entry)) at (writtenLine (now (word .entry)) written (now (buffer .entry))) (now (page .exit)) r ⌝ }
 {
     octets_line(
         page,
@@ -141,9 +127,7 @@ fn written_line(page: &mut [u8], at: usize, word: &[u8], written: usize, buffer:
 // A received message, with the reply that is written into a buffer.
 pub fn received_text(page: &mut [u8], message: &[u8], reply: &[u8], received: Received) -> usize
     requires { ⌜ (length (now message) ≤ 4096) × ((length (now reply) ≤ 300) × (70000 ≤ length (now page))) ⌝ }
-    ensures writes { λ _. ⌜ now (page .exit) ≡ splice (now (page .entry)) 0 (receivedText (now (message .entry)) (now (reply .entry)) received) ⌝ }
-    ensures next { λ r. ⌜ r ≡ length (receivedText (now (message .entry)) (now (reply .entry)) received) ⌝ }
-    ensures within { λ r. ⌜ r ≤ 70000 ⌝ }
+    ensures { λ r. ⌜ Filled 70000 (now (page .entry)) (receivedText (now (message .entry)) (now (reply .entry)) received) (now (page .exit)) r ⌝ }
 {
     let shown = received.shown;
     let text = received.text;
@@ -161,9 +145,7 @@ pub fn received_text(page: &mut [u8], message: &[u8], reply: &[u8], received: Re
 // A call, with the message that is written into a buffer; a begin tells its value.
 pub fn called_text(page: &mut [u8], begins: bool, buffer: &[u8], called: Called) -> usize
     requires { ⌜ (length (now buffer) ≤ 300) × (70000 ≤ length (now page)) ⌝ }
-    ensures writes { λ _. ⌜ now (page .exit) ≡ splice (now (page .entry)) 0 (calledText begins (now (buffer .entry)) called) ⌝ }
-    ensures next { λ r. ⌜ r ≡ length (calledText begins (now (buffer .entry)) called) ⌝ }
-    ensures within { λ r. ⌜ r ≤ 70000 ⌝ }
+    ensures { λ r. ⌜ Filled 70000 (now (page .entry)) (calledText begins (now (buffer .entry)) called) (now (page .exit)) r ⌝ }
 {
     let code = called.code;
     let a = done_or_refused(page, 0, code);

@@ -1,16 +1,13 @@
 // A verdict or a refusal in words.
 use printing::numbers::put_words;
-ghost use mathlib.Core.Path.{_≡_};
 ghost use Prim.Native.Nat.{_+_, _≤_};
 ghost use lib.ListN.{length};
-ghost use Rattle.octets.specs.Splice.{splice};
+ghost use Rattle.printing.specs.Page.{WroteWithin};
 ghost use Rattle.reports.specs.Words.{refusedLine, verdictLine, doneOrRefused};
 
 pub fn refused_line(page: &mut [u8], at: usize, code: u8) -> usize
     requires { ⌜ at + 64 ≤ length (now page) ⌝ }
-    ensures writes { λ _. ⌜ now (page .exit) ≡ splice (now (page .entry)) at (refusedLine code) ⌝ }
-    ensures next { λ r. ⌜ r ≡ at + length (refusedLine code) ⌝ }
-    ensures within { λ r. ⌜ r ≤ at + 64 ⌝ }
+    ensures { λ r. ⌜ WroteWithin 64 (now (page .entry)) at (refusedLine code) (now (page .exit)) r ⌝ }
 {
     if code == 20 {
         return put_words(page, at, b"refused 20 not listed\n");
@@ -45,9 +42,7 @@ pub fn refused_line(page: &mut [u8], at: usize, code: u8) -> usize
 // A refusal too, as a received message may get one.
 pub fn verdict_line(page: &mut [u8], at: usize, code: u8) -> usize
     requires { ⌜ at + 64 ≤ length (now page) ⌝ }
-    ensures writes { λ _. ⌜ now (page .exit) ≡ splice (now (page .entry)) at (verdictLine code) ⌝ }
-    ensures next { λ r. ⌜ r ≡ at + length (verdictLine code) ⌝ }
-    ensures within { λ r. ⌜ r ≤ at + 64 ⌝ }
+    ensures { λ r. ⌜ WroteWithin 64 (now (page .entry)) at (verdictLine code) (now (page .exit)) r ⌝ }
 {
     if code == 0 {
         return put_words(page, at, b"verdict 0 taken\n");
@@ -78,9 +73,7 @@ pub fn verdict_line(page: &mut [u8], at: usize, code: u8) -> usize
 
 pub fn done_or_refused(page: &mut [u8], at: usize, code: u8) -> usize
     requires { ⌜ at + 64 ≤ length (now page) ⌝ }
-    ensures writes { λ _. ⌜ now (page .exit) ≡ splice (now (page .entry)) at (doneOrRefused code) ⌝ }
-    ensures next { λ r. ⌜ r ≡ at + length (doneOrRefused code) ⌝ }
-    ensures within { λ r. ⌜ r ≤ at + 64 ⌝ }
+    ensures { λ r. ⌜ WroteWithin 64 (now (page .entry)) at (doneOrRefused code) (now (page .exit)) r ⌝ }
 {
     if code == 0 {
         return put_words(page, at, b"done 0\n");

@@ -12,7 +12,7 @@ use lib.Seq.{drop-cons, take-suc-set, append-snoc, drop-set-lt, paste-zero}
 use borrow.Author.Tests.{eq-eqb, ne-eqb}
 use Rattle.octets.specs.Splice.{splice}
 use Rattle.words.specs.Words.{blank}
-use Rattle.words.specs.Hex.{digitOf, Octets, stop, before, hexFrom, hex}
+use Rattle.words.specs.Hex.{digitOf, Octets, stop, before, hexFrom, hex, ReadsHex}
 use Rattle.words.specs.declared.Ending.{Ending}
 use Rattle.words.specs.declared.Ending.the-variants.{Whole, Wrong, Long}
 
@@ -101,7 +101,7 @@ reading-starts t first = rw (sub-zero (length first)) (omega arith, (omega arith
 
 module _ (t first b : List ℕ) (n half i : ℕ) (r : Reading t first b n half i) where
   pub reading-stops : (e : Ending) → hexFrom (length first - n) half (drop i t) ≡ stop e
-      → (n ≡ length (hex (length first) t .octets)) × ((e ≡ hex (length first) t .ends) × ((b ≡ splice first 0 (hex (length first) t .octets)) × (n ≤ length first)))
+      → ReadsHex t first b (record { count = n; ends = e })
   reading-stops e p = coming-none first (hex (length first) t) b n e (subst (λ (o : Octets). Coming first (hex (length first) t) b n o) p (r .1))
 
   -- a turn that stores nothing

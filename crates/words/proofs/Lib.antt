@@ -4,3 +4,4 @@ mod PlaceLaws
 mod HexLaws
 mod VerbLaws
 mod CommandLaws
+pub mod Determined

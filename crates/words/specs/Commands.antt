@@ -8,7 +8,6 @@ use lib.ListN.{getD}
 use Rattle.octets.specs.Reader.{isEmpty}
 use Rattle.words.specs.Words.{wordAt, spelled, same}
 use Rattle.words.specs.Numbers.{number, octetAt, idAt}
-use Rattle.words.specs.declared.Word.{Word}
 use Rattle.words.specs.declared.Number.{Number}
 use Rattle.words.specs.declared.Number.the-variants as numbers
 use Rattle.words.specs.declared.OctetAt.{OctetAt}

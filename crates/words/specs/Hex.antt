@@ -1,10 +1,13 @@
 -- "octets as hex with or without spaces": two digits an octet, blanks only between octets.
-use Prim.Native.Nat.{ℕ, _+_, _*_, _-_}
+use Prim.Native.Nat.{ℕ, _+_, _*_, _-_, _≤_}
+use mathlib.Core.Path.{_≡_}
 use mathlib.Core.List.{List, [], _∷_}
-use mathlib.Core.Bool.{Bool, cond, _&&_}
+use mathlib.Core.Bool.{cond, _&&_}
 use lib.ListN.{length}
 use lib.Dec.{eqb, leb}
+use Rattle.octets.specs.Splice.{splice}
 use Rattle.words.specs.Words.{blank}
+use Rattle.words.specs.declared.hex.Row.{Row}
 use Rattle.words.specs.declared.Ending.{Ending}
 use Rattle.words.specs.declared.Ending.the-variants.{Whole, Wrong, Long}
 
@@ -15,6 +18,9 @@ digitOf c =
     (cond (leb 65 c && leb c 70) (c - 55)
     (cond (leb 97 c && leb c 102) (c - 87)
     16))
+
+abbrev pub ReadsDigit : ℕ → ℕ → Type 0
+ReadsDigit c digit = (digit ≡ digitOf c) × (digit ≤ 16)
 
 -- the octets up to the end, or up to the first fault
 pub record Octets : Type 0 where
@@ -40,3 +46,11 @@ hexFrom room half (c ∷ s) =
 
 unfoldable pub hex : ℕ → List ℕ → Octets
 hex room text = hexFrom room 16 text
+
+-- What is promised of octets that are read into a buffer: how many they are, how they end, and that they stand at its front.
+abbrev pub ReadsHex : List ℕ → List ℕ → List ℕ → Row → Type 0
+ReadsHex text buffer after row =
+    (row .count ≡ length (hex (length buffer) text .octets))
+    × ((row .ends ≡ hex (length buffer) text .ends)
+    × ((after ≡ splice buffer 0 (hex (length buffer) text .octets))
+    × (row .count ≤ length buffer)))

@@ -1,12 +1,11 @@
 -- "words and decimal numbers": "FLAG, VALUE, OPERATION and CODE are 0 to 255, ID is -128 to 127."
 use Prim.Native.Nat.{ℕ, _+_, _*_, _-_, _%_, _≤_}
+use mathlib.Core.Path.{_≡_}
 use mathlib.Core.List.{List, [], _∷_}
 use mathlib.Core.Bool.{Bool, cond, _&&_}
-use lib.IntN.{ℤ}
 use lib.Dec.{eqb, leb}
 use Rattle.codes.specs.Ids.{idOf}
 use Rattle.words.specs.Words.{wordAt, spelled}
-use Rattle.words.specs.declared.Word.{Word}
 use Rattle.words.specs.declared.Number.{Number}
 use Rattle.words.specs.declared.Number.the-variants.{Nothing, Is}
 use Rattle.words.specs.declared.OctetAt.{OctetAt}
@@ -31,6 +30,9 @@ abbrev pub AtMost : ℕ → Number → Type 0
 AtMost most Nothing = Unit {0}
 AtMost most (Is n) = n ≤ most
 
+abbrev pub ReadsNumber : ℕ → List ℕ → Number → Type 0
+ReadsNumber most word r = (r ≡ number most word) × AtMost most r
+
 -- the octet of a number that stands behind a minus, two's complement
 abbrev pub negative : Number → Number
 negative Nothing = Nothing
@@ -40,6 +42,9 @@ negative (Is n) = Is ((256 - n) % 256)
 unfoldable pub signed : List ℕ → Number
 signed [] = Nothing
 signed (c ∷ s) = cond (eqb c 45) (negative (number 128 s)) (number 127 (c ∷ s))
+
+abbrev pub ReadsSigned : List ℕ → Number → Type 0
+ReadsSigned word r = (r ≡ signed word) × AtMost 255 r
 
 abbrev pub octetIn : ℕ → Number → OctetAt
 octetIn next Nothing = NoOctet

@@ -2,10 +2,7 @@
 use crate::Ending;
 use crate::text::is_blank;
 ghost use mathlib.Core.Path.{_≡_};
-ghost use Prim.Native.Nat.{_≤_};
-ghost use lib.ListN.{length};
-ghost use Rattle.octets.specs.Splice.{splice};
-ghost use Rattle.words.specs.Hex.{digitOf, hex};
+ghost use Rattle.words.specs.Hex.{ReadsDigit, ReadsHex};
 
 // How many octets were read, and how they end.
 pub struct Row {
@@ -15,8 +12,7 @@ pub struct Row {
 
 // The value of a digit; 16 if it is none.
 fn digit_of(c: u8) -> u8
-    ensures reads { λ r. ⌜ r ≡ digitOf c ⌝ }
-    ensures within { λ r. ⌜ r ≤ 16 ⌝ }
+    ensures { λ r. ⌜ ReadsDigit c r ⌝ }
 {
     if (48 <= c) & (c <= 57) {
         return c - 48;
@@ -41,10 +37,7 @@ fn row_of(count: usize, ends: Ending) -> Row
 
 // Reads a row of octets into a lent buffer, up to the end of the text or the first fault.
 pub fn read_hex(text: &[u8], buffer: &mut [u8]) -> Row
-    ensures count { λ r. ⌜ r .count ≡ length (hex (length (now (buffer .entry))) (now (text .entry)) .octets) ⌝ }
-    ensures ends { λ r. ⌜ r .ends ≡ hex (length (now (buffer .entry))) (now (text .entry)) .ends ⌝ }
-    ensures writes { λ _. ⌜ now (buffer .exit) ≡ splice (now (buffer .entry)) 0 (hex (length (now (buffer .entry))) (now (text .entry)) .octets) ⌝ }
-    ensures within { λ r. ⌜ r .count ≤ length (now (buffer .entry)) ⌝ }
+    ensures { λ r. ⌜ ReadsHex (now (text .entry)) (now (buffer .entry)) (now (buffer .exit)) r ⌝ }
 {
     let mut n = 0;
     let mut half = 16u8;

@@ -4,7 +4,7 @@ use crate::Number;
 use crate::OctetAt;
 use crate::text::word_at;
 ghost use mathlib.Core.Path.{_≡_};
-ghost use Rattle.words.specs.Numbers.{digit, number, signed, octetAt, idAt, AtMost};
+ghost use Rattle.words.specs.Numbers.{digit, ReadsNumber, ReadsSigned, octetAt, idAt};
 
 fn is_digit(c: u8) -> bool
     ensures { λ r. ⌜ r ≡ digit c ⌝ }
@@ -14,8 +14,7 @@ fn is_digit(c: u8) -> bool
 
 // A number of at most `most`: digits alone, at least one.
 pub fn number(word: &[u8], most: u16) -> Number
-    ensures reads { λ r. ⌜ r ≡ number most (now (word .entry)) ⌝ }
-    ensures within { λ r. ⌜ AtMost most r ⌝ }
+    ensures { λ r. ⌜ ReadsNumber most (now (word .entry)) r ⌝ }
 {
     if word.len() == 0 {
         return Number::Nothing;
@@ -40,8 +39,7 @@ pub fn number(word: &[u8], most: u16) -> Number
 
 // A number of -128 to 127, as the octet that says it.
 fn signed(word: &[u8]) -> Number
-    ensures reads { λ r. ⌜ r ≡ signed (now (word .entry)) ⌝ }
-    ensures within { λ r. ⌜ AtMost 255 r ⌝ }
+    ensures { λ r. ⌜ ReadsSigned (now (word .entry)) r ⌝ }
 {
     if word.len() == 0 {
         return Number::Nothing;

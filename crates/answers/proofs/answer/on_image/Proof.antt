@@ -8,7 +8,7 @@ use Rattle.printing.specs.Lines.{octetsLine}
 use Rattle.reports.specs.Words.{tableWord, tableSet}
 use Rattle.answers.specs.Answers.{notUnderstood, says, image}
 use Rattle.answers.proofs.PageLaws.{two}
-use Rattle.answers.proofs.AnswerLaws.{state, stays, sets, image-shown, image-set, image-long, imaged}
+use Rattle.answers.proofs.AnswerLaws.{state, stays, sets, image-shown, image-set, image-long}
 use Rattle.answers.proofs.answer.on_image.Statement.{statement}
 use Rattle.answers.proofs.answer.on_image.Tie as tie
 use Rattle.answers.proofs.answer.on_image.Reads as reads
@@ -54,7 +54,7 @@ returns c =
     let w = two (a .page .now) (octetsLine tableWord (take (a .held .size) (a .space .now))) (10 ∷ []) _ _ _ _ (omega (arith, n)) (o .0, o .1 .0) (c .before .before .put-words .ensures) in
     let s = state (a .space .now) (a .held .size) (a .held .room) in
     let e : image (a .number) s (a .octets .now) ≡ says _ s = image-shown (a .number) s (a .octets .now) (c .before .before .before .before .before .before .before .before .before .before .before .if1 .taken) in
-    imaged (a .number) s (a .octets .now) _ _ _ _ _ (stays _ (a .space .now) _ _ _ _ _ (a .held .room) _ e (omega arith) (omega arith) (omega arith) refl w (omega (arith, n)))
+    stays _ (a .space .now) _ _ _ _ _ (a .held .room) _ e (omega arith) (omega arith) (omega arith) refl w (omega (arith, n))
 
 put-requires : tie.Need-put-requires
 put-requires c κs = search needs
@@ -76,7 +76,7 @@ returns-2 c =
     let a = c .before .before .before .before .before .before .before .before .before .before .before .before .before .before .args in
     let s = state (a .space .now) (a .held .size) (a .held .room) in
     let e : image (a .number) s (a .octets .now) ≡ says tableSet _ = image-set (a .number) s (a .octets .now) (c .before .before .before .before .before .before .before .before .before .before .if1 .left) (c .before .before .before .before .before .before .before .before .before .if2 .taken) in
-    imaged (a .number) s (a .octets .now) _ _ _ _ _ (sets _ (a .space .now) _ _ _ tableSet (a .octets .now) (a .held .room) _ e (c .before .before .before .before .before .before .before .before .before .if2 .taken) (omega arith) (c .before .before .before .before .before .before .before .put .ensures) (c .before .before .put-words2 .ensures) (omega arith))
+    sets _ (a .space .now) _ _ _ tableSet (a .octets .now) (a .held .room) _ e (c .before .before .before .before .before .before .before .before .before .if2 .taken) (omega arith) (c .before .before .before .before .before .before .before .put .ensures) (c .before .before .put-words2 .ensures) (omega arith)
 
 not-understood-requires : tie.Need-not-understood-requires
 not-understood-requires c κs = search needs
@@ -90,7 +90,7 @@ returns-3 c =
     let s = state (a .space .now) (a .held .size) (a .held .room) in
     let u = c .before .before .not-understood .ensures in
     let e : image (a .number) s (a .octets .now) ≡ says (notUnderstood (a .number)) s = image-long (a .number) s (a .octets .now) (omega arith) in
-    imaged (a .number) s (a .octets .now) _ _ _ _ _ (stays _ (a .space .now) _ _ _ _ _ (a .held .room) _ e (omega arith) (omega arith) (omega arith) refl (u .0, u .1 .0) (omega arith))
+    stays _ (a .space .now) _ _ _ _ _ (a .held .room) _ e (omega arith) (omega arith) (omega arith) refl (u .0, u .1 .0) (omega arith)
 
 pub on-image-spec : {M : Type 1} → statement M
 on-image-spec =

@@ -35,7 +35,7 @@ returns c =
     let a = c .before .before .before .before .before .args in
     let end = c .before .before .before .line-end .result in
     let z : c .before .if1 .next ≡ cond (ltb end (length (a .input .now))) (suc end) end = ⊎-elim (λ w. next-whole _ end _ (w .0 .taken) (w .1)) (λ w. next-cut _ end _ (w .0 .left) (w .1)) (c .before .if1 .came) in
-    gather-long (a .input .now) (a .line .now) _ (a .from) (a .have) end _ (omega arith) (c .before .before .before .line-end .ensures) (c .before .before .part .ensures) z (c .if2 .taken)
+    gather-long (a .input .now) (a .line .now) _ (a .from) (a .have) end _ (omega arith) (c .before .before .before .line-end .ensures) (c .before .before .part .ensures .0) z (c .if2 .taken)
 
 put-requires : tie.Need-put-requires
 put-requires c κs = search needs
@@ -48,7 +48,7 @@ returns-2 c =
     let a = c .before .before .before .before .before .before .before .args in
     let end = c .before .before .before .before .before .line-end .result in
     let z : c .before .before .before .if1 .next ≡ cond (ltb end (length (a .input .now))) (suc end) end = ⊎-elim (λ w. next-whole _ end _ (w .0 .taken) (w .1)) (λ w. next-cut _ end _ (w .0 .left) (w .1)) (c .before .before .before .if1 .came) in
-    gather-on (a .input .now) (a .line .now) _ (a .from) (a .have) end _ (omega arith) (c .before .before .before .before .before .line-end .ensures) (c .before .before .before .before .part .ensures) z _ (omega arith) (c .put .ensures)
+    gather-on (a .input .now) (a .line .now) _ (a .from) (a .have) end _ (omega arith) (c .before .before .before .before .before .line-end .ensures) (c .before .before .before .before .part .ensures .0) z _ (omega arith) (c .put .ensures)
 
 pub gather-spec : {M : Type 1} → statement M
 gather-spec =

@@ -12,7 +12,7 @@ part-requires c κs = search needs
 returns : tie.Need-returns
 returns c =
     let a = c .before .before .args in
-    let e = c .part .ensures in
+    let e = c .part .ensures .0 in
     let l = between-length (a .span .start) (a .span .end) (a .message .now) in
     (e, rw e l)
 

@@ -17,7 +17,7 @@ part-requires c κs = search needs
 octets-line-requires : tie.Need-octets-line-requires
 octets-line-requires c κs =
     let a = c .before .before .before .before .before .args in
-    let e : c .part .result .now ≡ take (a .written) (a .buffer .now) = c .part .ensures ∙ front (a .written) (a .buffer .now) in
+    let e : c .part .result .now ≡ take (a .written) (a .buffer .now) = c .part .ensures .0 ∙ front (a .written) (a .buffer .now) in
     rw e (omega arith, omega (arith, front-length (a .written) (a .buffer .now)))
 
 same-length : tie.Need-same-length
@@ -27,7 +27,7 @@ returns : tie.Need-returns
 unfolding writtenLine
 returns c =
     let a = c .before .before .before .before .before .before .before .before .args in
-    let e : c .before .before .before .part .result .now ≡ take (a .written) (a .buffer .now) = c .before .before .before .part .ensures ∙ front (a .written) (a .buffer .now) in
+    let e : c .before .before .before .part .result .now ≡ take (a .written) (a .buffer .now) = c .before .before .before .part .ensures .0 ∙ front (a .written) (a .buffer .now) in
     let w = rw e at (c .before .before .octets-line .ensures) in
     (w .0, (w .1 .0, omega (arith, front-length (a .written) (a .buffer .now))))
 

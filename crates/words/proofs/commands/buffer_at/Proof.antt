@@ -39,13 +39,13 @@ returns-2 : tie.Need-returns-2
 returns-2 c =
     sym (buffer-no-number (c .before .before .before .before .before .before .before .before .args .s .now) (c .before .before .before .before .before .before .before .before .args .at) (c .before .before .before .before .before .before .word-at .result) (c .before .before .before .before .before .before .word-at .ensures)
     (sym (c .before .before .before .before .before .is-ended .ensures) ∙ not-false _ (c .before .before .before .before .if1 .left))
-    (sym (c .before .before .number .ensures .0 ∙ ap (number 300) (c .before .before .before .part .ensures)) ∙ c .enum-told .given .1))
+    (sym (c .before .before .number .ensures .0 ∙ ap (number 300) (c .before .before .before .part .ensures .0)) ∙ c .enum-told .given .1))
 
 returns-3 : tie.Need-returns-3
 returns-3 c =
     sym (buffer-is (c .before .before .before .before .before .before .before .before .before .args .s .now) (c .before .before .before .before .before .before .before .before .before .args .at) (c .before .before .before .before .before .before .before .word-at .result) (c .before .before .before .before .before .before .before .word-at .ensures)
     (sym (c .before .before .before .before .before .before .is-ended .ensures) ∙ not-false _ (c .before .before .before .before .before .if1 .left))
-    (sym (c .before .before .before .number .ensures .0 ∙ ap (number 300) (c .before .before .before .before .part .ensures)) ∙ c .before .n .given .1))
+    (sym (c .before .before .before .number .ensures .0 ∙ ap (number 300) (c .before .before .before .before .part .ensures .0)) ∙ c .before .n .given .1))
 
 pub buffer-at-spec : {M : Type 1} → statement M
 buffer-at-spec =

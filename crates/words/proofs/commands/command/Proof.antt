@@ -19,7 +19,7 @@ part-requires c κs = search needs
 
 returns : tie.Need-returns
 returns c =
-    sym (command-empty (c .before .before .before .before .args .line .now) (c .before .before .word-at .result) (c .before .before .word-at .ensures) (c .before .part .result .now) (c .before .part .ensures)
+    sym (command-empty (c .before .before .before .before .args .line .now) (c .before .before .word-at .result) (c .before .before .word-at .ensures) (c .before .part .result .now) (c .before .part .ensures .0)
     (c .if1 .taken))
 
 shared-slice-read-if2 : tie.Need-shared-slice-read-if2
@@ -27,7 +27,7 @@ shared-slice-read-if2 c = search needs
 
 returns-2 : tie.Need-returns-2
 returns-2 c =
-    sym (command-comment (c .before .before .before .before .before .before .args .line .now) (c .before .before .before .before .word-at .result) (c .before .before .before .before .word-at .ensures) (c .before .before .before .part .result .now) (c .before .before .before .part .ensures)
+    sym (command-comment (c .before .before .before .before .before .before .args .line .now) (c .before .before .before .before .word-at .result) (c .before .before .before .before .word-at .ensures) (c .before .before .before .part .result .now) (c .before .before .before .part .ensures .0)
     (c .before .before .if1 .left) (c .if2 .taken))
 
 verb-of-requires : tie.Need-verb-of-requires
@@ -41,7 +41,7 @@ returns-3 c =
     let s = c .before .before .before .before .before .before .before .before .args .line .now in
     let w = c .before .before .before .before .before .before .word-at .result in
     let e = c .by-verb .ensures ∙ ap (byVerb s (w .end)) (c .before .verb-of .ensures) in
-    e ∙ sym (command-is s w (c .before .before .before .before .before .before .word-at .ensures) (c .before .before .before .before .before .part .result .now) (c .before .before .before .before .before .part .ensures) (c .before .before .before .before .if1 .left) (c .before .before .if2 .left))
+    e ∙ sym (command-is s w (c .before .before .before .before .before .before .word-at .ensures) (c .before .before .before .before .before .part .result .now) (c .before .before .before .before .before .part .ensures .0) (c .before .before .before .before .if1 .left) (c .before .before .if2 .left))
 
 pub command-spec : {M : Type 1} → statement M
 command-spec =

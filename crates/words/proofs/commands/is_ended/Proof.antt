@@ -17,7 +17,7 @@ part-requires : tie.Need-part-requires
 part-requires c κs = search needs
 
 returns : tie.Need-returns
-returns c = empty-length (c .part .result .now) ∙ ap isEmpty (c .part .ensures ∙ ap (spelled (c .before .before .before .args .s .now)) (c .before .word-at .ensures))
+returns c = empty-length (c .part .result .now) ∙ ap isEmpty (c .part .ensures .0 ∙ ap (spelled (c .before .before .before .args .s .now)) (c .before .word-at .ensures))
 
 pub is-ended-spec : {M : Type 1} → statement M
 is-ended-spec = tie.close (tie.spec word-at-requires part-requires returns)

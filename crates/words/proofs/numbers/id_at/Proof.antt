@@ -30,7 +30,7 @@ enum-told c = search needs
 
 returns : tie.Need-returns
 returns c =
-    let e = sym (c .before .before .signed .ensures .0 ∙ ap signed (c .before .before .before .part .ensures)) ∙ c .enum-told .given .1 in
+    let e = sym (c .before .before .signed .ensures .0 ∙ ap signed (c .before .before .before .part .ensures .0)) ∙ c .enum-told .given .1 in
     sym (id-none (c .before .before .before .before .before .before .args .s .now) (c .before .before .before .before .before .before .args .at) (c .before .before .before .before .word-at .result) (c .before .before .before .before .word-at .ensures) e)
 
 cast-id-of : tie.Need-cast-id-of
@@ -44,7 +44,7 @@ id-of-requires c κs = search needs
 returns-2 : tie.Need-returns-2
 returns-2 c =
     let h = at-most-is 255 _ (c .before .before .before .before .signed .result) (c .before .before .n .given .1) (c .before .before .before .before .signed .ensures .1) in
-    let e = sym (c .before .before .before .before .signed .ensures .0 ∙ ap signed (c .before .before .before .before .before .part .ensures)) ∙ c .before .before .n .given .1 in
+    let e = sym (c .before .before .before .before .signed .ensures .0 ∙ ap signed (c .before .before .before .before .before .part .ensures .0)) ∙ c .before .before .n .given .1 in
     sym (id-is (c .before .before .before .before .before .before .before .before .args .s .now) (c .before .before .before .before .before .before .before .before .args .at) (c .before .before .before .before .before .before .word-at .result) (c .before .before .before .before .before .before .word-at .ensures) _ (c .id-of .result) h (c .id-of .ensures) e)
 
 pub id-at-spec : {M : Type 1} → statement M

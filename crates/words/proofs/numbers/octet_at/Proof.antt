@@ -29,7 +29,7 @@ enum-told c = search needs
 
 returns : tie.Need-returns
 returns c =
-    let e = sym (c .before .before .number .ensures .0 ∙ ap (number 255) (c .before .before .before .part .ensures)) ∙ c .enum-told .given .1 in
+    let e = sym (c .before .before .number .ensures .0 ∙ ap (number 255) (c .before .before .before .part .ensures .0)) ∙ c .enum-told .given .1 in
     sym (octet-none (c .before .before .before .before .before .before .args .s .now) (c .before .before .before .before .before .before .args .at) (c .before .before .before .before .word-at .result) (c .before .before .before .before .word-at .ensures) e)
 
 cast-t7 : tie.Need-cast-t7
@@ -39,7 +39,7 @@ cast-t7 c =
 
 returns-2 : tie.Need-returns-2
 returns-2 c =
-    let e = sym (c .before .before .before .number .ensures .0 ∙ ap (number 255) (c .before .before .before .before .part .ensures)) ∙ c .before .n .given .1 in
+    let e = sym (c .before .before .before .number .ensures .0 ∙ ap (number 255) (c .before .before .before .before .part .ensures .0)) ∙ c .before .n .given .1 in
     sym (octet-is (c .before .before .before .before .before .before .before .args .s .now) (c .before .before .before .before .before .before .before .args .at) (c .before .before .before .before .before .word-at .result) (c .before .before .before .before .before .word-at .ensures) _ e)
 
 pub octet-at-spec : {M : Type 1} → statement M

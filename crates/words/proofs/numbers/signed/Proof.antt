@@ -1,7 +1,7 @@
 use borrow.Author.Needs.{needs}
 use mathlib.Core.Path.{sym, ap, _∙_}
 use native.Mathlib.Omega.{arith}
-use Rattle.words.specs.Numbers.{number, negative}
+use Rattle.words.specs.Numbers.{negative}
 use Rattle.words.proofs.NumberLaws.{at-most, at-most-is, signed-empty, signed-plain, signed-minus}
 use Rattle.words.proofs.numbers.signed.Statement.{statement}
 use Rattle.words.proofs.numbers.signed.Tie as tie
