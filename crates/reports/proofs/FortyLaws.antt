@@ -18,7 +18,8 @@ use Rattle.showing.specs.declared.CauseView.{CauseView}
 use Rattle.telephone.specs.declared.receive.Received.{Received}
 use Rattle.telephone.specs.declared.calls.Called.{Called}
 use Rattle.reports.specs.Words.{invokeWord, resultWord, errorWord, rejectWord, rejectNone, linkedWord, operationWord, codeWord, parameterWord, schemeWord, stringWord, tailWord, causeWord, replyWord, messageWord, valueWord, doneLine, refusedLine, verdictLine, doneOrRefused}
-use Rattle.reports.specs.Shown.{cut, kindLines, numberLines, parameterLine, textLines, causeLine, writtenLine, receivedText, calledText}
+use Rattle.showing.specs.Views.{standing}
+use Rattle.reports.specs.Shown.{kindLines, numberLines, parameterLine, textLines, causeLine, writtenLine, receivedText, calledText}
 use Rattle.reports.proofs.VerdictLaws.{refused-none, verdict-none}
 
 -- by cases on a test
@@ -103,19 +104,19 @@ numbers-forty v =
 
 parameter-forty : (m : List ℕ) (v : ComponentView) → forty (parameterLine m v) ≡ true
 unfolding parameterLine plain
-parameter-forty m v = octets-there (ltb (v .parameter .start) (v .parameter .end)) parameterWord (cut m (v .parameter)) refl (omega arith)
+parameter-forty m v = octets-there (ltb (v .parameter .start) (v .parameter .end)) parameterWord (standing m (v .parameter)) refl (omega arith)
 
 text-forty : (m : List ℕ) (t : TextView) → forty (textLines m t) ≡ true
 unfolding textLines plain
 text-forty m t =
     forty-append _ _ (forty-append _ _
     (octets-there (t .«is_there») schemeWord (t .scheme ∷ []) refl (omega arith))
-    (octets-there (t .«is_there») stringWord (cut m (t .string)) refl (omega arith)))
-    (octets-there (t .«is_there») tailWord (cut m (t .tail)) refl (omega arith))
+    (octets-there (t .«is_there») stringWord (standing m (t .string)) refl (omega arith)))
+    (octets-there (t .«is_there») tailWord (standing m (t .tail)) refl (omega arith))
 
 cause-forty : (m : List ℕ) (c : CauseView) → forty (causeLine m c) ≡ true
 unfolding causeLine plain
-cause-forty m c = octets-there (c .«is_there») causeWord (cut m (c .contents)) refl (omega arith)
+cause-forty m c = octets-there (c .«is_there») causeWord (standing m (c .contents)) refl (omega arith)
 
 written-forty : (word : List ℕ) (written : ℕ) (buffer : List ℕ) → plain word ≡ true → length word ≤ 16 → forty (writtenLine word written buffer) ≡ true
 unfolding writtenLine

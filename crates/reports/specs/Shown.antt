@@ -4,19 +4,15 @@ use mathlib.Core.List.{List, [], _∷_, _++_}
 use mathlib.Core.Bool.{Bool, not, _&&_}
 use lib.ListN.{take}
 use lib.Dec.{eqb, ltb}
-use Rattle.octets.specs.Part.{between}
 use Rattle.printing.specs.Lines.{when, octetsLine, numberLine, idLine, problemLine}
 use Rattle.components.specs.Component.{invokeTag, resultTag, errorTag, rejectTag}
-use Rattle.showing.specs.declared.Span.{Span}
+use Rattle.showing.specs.Views.{standing}
 use Rattle.showing.specs.declared.ComponentView.{ComponentView}
 use Rattle.showing.specs.declared.TextView.{TextView}
 use Rattle.showing.specs.declared.CauseView.{CauseView}
 use Rattle.telephone.specs.declared.receive.Received.{Received}
 use Rattle.telephone.specs.declared.calls.Called.{Called}
 use Rattle.reports.specs.Words.{invokeWord, resultWord, errorWord, rejectWord, rejectNone, linkedWord, operationWord, codeWord, parameterWord, schemeWord, stringWord, tailWord, causeWord, replyWord, messageWord, valueWord, verdictLine, doneOrRefused}
-
-abbrev pub cut : List ℕ → Span → List ℕ
-cut m span = between (span .start) (span .end) m
 
 -- "`invoke 5`, `result 1`, `error 1`, `reject 5` or `reject none`"
 unfoldable pub kindLines : ComponentView → List ℕ
@@ -37,18 +33,18 @@ numberLines v =
 
 -- "`parameter 30 06 ..`"
 unfoldable pub parameterLine : List ℕ → ComponentView → List ℕ
-parameterLine m v = when (ltb (v .parameter .start) (v .parameter .end)) (octetsLine parameterWord (cut m (v .parameter)))
+parameterLine m v = when (ltb (v .parameter .start) (v .parameter .end)) (octetsLine parameterWord (standing m (v .parameter)))
 
 -- "`scheme 0F`, `string 41`, `tail 04 01 02`"
 unfoldable pub textLines : List ℕ → TextView → List ℕ
 textLines m t =
     when (t .«is_there») (octetsLine schemeWord (t .scheme ∷ []))
-    ++ when (t .«is_there») (octetsLine stringWord (cut m (t .string)))
-    ++ when (t .«is_there») (octetsLine tailWord (cut m (t .tail)))
+    ++ when (t .«is_there») (octetsLine stringWord (standing m (t .string)))
+    ++ when (t .«is_there») (octetsLine tailWord (standing m (t .tail)))
 
 -- "`cause E0 9D`"
 unfoldable pub causeLine : List ℕ → CauseView → List ℕ
-causeLine m c = when (c .«is_there») (octetsLine causeWord (cut m (c .contents)))
+causeLine m c = when (c .«is_there») (octetsLine causeWord (standing m (c .contents)))
 
 -- "`reply 8B 2A ..` or, for a call, `message 0B 3B ..`"
 unfoldable pub writtenLine : List ℕ → ℕ → List ℕ → List ℕ

@@ -17,7 +17,8 @@ ghost use Prim.Native.Nat.{_+_, _≤_};
 ghost use lib.ListN.{length};
 ghost use Rattle.printing.specs.Page.{WroteWithin, Filled};
 ghost use Rattle.printing.specs.Lines.{when};
-ghost use Rattle.reports.specs.Shown.{cut, kindLines, numberLines, parameterLine, textLines, causeLine, writtenLine, receivedText, calledText};
+ghost use Rattle.showing.specs.Views.{standing};
+ghost use Rattle.reports.specs.Shown.{kindLines, numberLines, parameterLine, textLines, causeLine, writtenLine, receivedText, calledText};
 
 // Words that may be left out.
 fn words_line(page: &mut [u8], at: usize, there: bool, words: &[u8]) -> usize
@@ -32,10 +33,18 @@ fn words_line(page: &mut [u8], at: usize, there: bool, words: &[u8]) -> usize
 
 // A part of the message.
 fn part_of(message: &[u8], span: Span) -> &[u8]
-    ensures part { λ r. ⌜ now r ≡ cut (now (message .entry)) span ⌝ }
+    ensures part { λ r. ⌜ now r ≡ standing (now (message .entry)) span ⌝ }
     ensures within { λ r. ⌜ length (now r) ≤ length (now (message .entry)) ⌝ }
 {
     octets::part(message, span.start, span.end)
+}
+
+// The parameter of the component that the message shows.
+fn parameter_part(message: &[u8], received: Received) -> &[u8]
+    ensures part { λ r. ⌜ now r ≡ standing (now (message .entry)) (received .shown .parameter) ⌝ }
+    ensures within { λ r. ⌜ length (now r) ≤ length (now (message .entry)) ⌝ }
+{
+    telephone::receive::shown_parameter(message, received)
 }
 
 fn kind_lines(page: &mut [u8], at: usize, view: ComponentView) -> usize
@@ -69,17 +78,18 @@ fn number_lines(page: &mut [u8], at: usize, view: ComponentView) -> usize
     problem_line(page, c, kind == 0xA4, view.tag, view.problem)
 }
 
-fn parameter_line(page: &mut [u8], at: usize, message: &[u8], view: ComponentView) -> usize
+fn parameter_line(page: &mut [u8], at: usize, message: &[u8], received: Received) -> usize
     requires { ⌜ (length (now message) ≤ 4096) × (at + 16448 ≤ length (now page)) ⌝ }
-    ensures { λ r. ⌜ WroteWithin 16448 (now (page .entry)) at (parameterLine (now (message .entry)) view) (now (page .exit)) r ⌝ }
+    ensures { λ r. ⌜ WroteWithin 16448 (now (page .entry)) at (parameterLine (now (message .entry)) (received .shown)) (now (page .exit)) r ⌝ }
 {
+    let view = received.shown;
     let span = view.parameter;
     octets_line(
         page,
         at,
         span.start < span.end,
         b"parameter",
-        part_of(message, span),
+        parameter_part(message, received),
     )
 }
 
@@ -135,7 +145,7 @@ pub fn received_text(page: &mut [u8], message: &[u8], reply: &[u8], received: Re
     let a = verdict_line(page, 0, received.code);
     let b = kind_lines(page, a, shown);
     let c = number_lines(page, b, shown);
-    let d = parameter_line(page, c, message, shown);
+    let d = parameter_line(page, c, message, received);
     let e = text_lines(page, d, message, text);
     let f = cause_line(page, e, message, cause);
     let g = written_line(page, f, b"reply", received.written, reply);

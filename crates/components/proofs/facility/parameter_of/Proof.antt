@@ -1,9 +1,11 @@
 use borrow.Author.Needs.{needs}
 use native.Mathlib.Omega.{arith}
-use mathlib.Core.Path.{ap, _∙_}
-use Prim.Native.Nat.{ℕ}
+use mathlib.Core.Path.{_≡_, ap, _∙_}
+use lib.ListN.{length}
+use Prim.Native.Nat.{ℕ, _≤_}
 use Rattle.octets.specs.Part.{placeAt}
-use Rattle.components.specs.Facility.{parameterIn}
+use Rattle.places.specs.Seen.{last}
+use Rattle.components.specs.Facility.{parameterIn, facility}
 use Rattle.components.proofs.Paths.{not-shown, parameter-shown, no-parameter, last-parameter}
 use Rattle.components.proofs.facility.parameter_of.Statement.{statement}
 use Rattle.components.proofs.facility.parameter_of.Tie as tie
@@ -54,9 +56,12 @@ returns-2 : tie.Need-returns-2
 returns-2 c =
     let a = c .before .before .before .before .before .before .before .args .s in
     let g = c .before .before .before .shown .given in
-    let w = rw (g .1) at (c .before .before .before .before .before .read-facility .ensures .1) in
-    let h = last-parameter (a .now) _ w (parameter-shown (g .0 .0) (a .now) ∙ ap parameterIn (rw (g .1) at (c .before .before .before .before .before .read-facility .ensures .0))) in
-    rw (c .before .parameter-length .ensures) (h .0, ap (λ (k : ℕ). placeAt k (a .ptr)) (h .1))
+    let n = c .before .parameter-length in
+    let w : n .result ≤ length (a .now) = rw (n .ensures) (rw (g .1) at (c .before .before .before .before .before .read-facility .ensures .1)) in
+    let e : last (n .result) (a .now) ≡ parameterIn (facility (a .now))
+    = rw (n .ensures) (parameter-shown (g .0 .0) (a .now) ∙ ap parameterIn (rw (g .1) at (c .before .before .before .before .before .read-facility .ensures .0))) in
+    let h = last-parameter (a .now) (n .result) w e in
+    (h .0, ap (λ (k : ℕ). placeAt k (a .ptr)) (h .1))
 
 pub parameter-of-spec : {M : Type 1} → statement M
 parameter-of-spec =

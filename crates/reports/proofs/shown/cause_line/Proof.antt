@@ -1,7 +1,8 @@
 use borrow.Author.Needs.{needs}
 use mathlib.Core.Path.{_≡_}
 use native.Mathlib.Omega.{arith}
-use Rattle.reports.specs.Shown.{cut, causeLine}
+use Rattle.showing.specs.Views.{standing}
+use Rattle.reports.specs.Shown.{causeLine}
 use Rattle.reports.proofs.shown.cause_line.Statement.{statement}
 use Rattle.reports.proofs.shown.cause_line.Tie as tie
 use Rattle.reports.proofs.shown.cause_line.Reads as reads
@@ -25,7 +26,7 @@ returns : tie.Need-returns
 unfolding causeLine
 returns c =
     let a = c .before .before .before .before .before .before .before .before .before .args in
-    let e : c .before .before .before .part-of .result .now ≡ cut (a .message .now) (a .view .contents) = c .before .before .before .part-of .ensures .0 in
+    let e : c .before .before .before .part-of .result .now ≡ standing (a .message .now) (a .view .contents) = c .before .before .before .part-of .ensures .0 in
     let w = rw e at (c .before .before .octets-line .ensures) in
     (w .0, (w .1 .0, omega (arith, c .before .before .before .part-of .ensures .1)))
 

@@ -5,7 +5,8 @@ use native.Mathlib.Omega.{arith}
 use mathlib.Core.List.{[], _∷_}
 use Rattle.printing.specs.Lines.{when, octetsLine}
 use Rattle.reports.specs.Words.{schemeWord, stringWord, tailWord}
-use Rattle.reports.specs.Shown.{textLines, cut}
+use Rattle.showing.specs.Views.{standing}
+use Rattle.reports.specs.Shown.{textLines}
 use Rattle.reports.proofs.RowLaws.{three}
 use Rattle.reports.proofs.shown.text_lines.Statement.{statement}
 use Rattle.reports.proofs.shown.text_lines.Tie as tie
@@ -51,15 +52,15 @@ returns c =
     let m = a .message .now in
     let t = a .view in
     let u = c .before .before .before .before .before .before .before .before .before .before .before .before .before .before .octets-line .ensures in
-    let d : c .before .before .before .before .before .before .before .before .before .part-of .result .now ≡ cut m (t .string) = c .before .before .before .before .before .before .before .before .before .part-of .ensures .0 in
-    let e : c .before .before .before .part-of2 .result .now ≡ cut m (t .tail) = c .before .before .before .part-of2 .ensures .0 in
+    let d : c .before .before .before .before .before .before .before .before .before .part-of .result .now ≡ standing m (t .string) = c .before .before .before .before .before .before .before .before .before .part-of .ensures .0 in
+    let e : c .before .before .before .part-of2 .result .now ≡ standing m (t .tail) = c .before .before .before .part-of2 .ensures .0 in
     let v = rw d at (c .before .before .before .before .before .before .before .before .octets-line2 .ensures) in
     let w = rw e at (c .before .before .octets-line3 .ensures) in
     let b : c .before .before .octets-line3 .result ≤ a .at + 33000 = omega (arith, u .1 .1, c .before .before .before .before .before .before .before .before .octets-line2 .ensures .1 .1, c .before .before .before .before .before .before .before .before .before .part-of .ensures .1, c .before .before .octets-line3 .ensures .1 .1, c .before .before .before .part-of2 .ensures .1, c .before .before .before .before .before .before .before .before .before .before .before .before .before .before .before .before .before .before .before .before .before .before .pre) in
     let j = three (a .page .now) (a .at)
     (when (t .«is_there») (octetsLine schemeWord (t .scheme ∷ [])))
-    (when (t .«is_there») (octetsLine stringWord (cut m (t .string))))
-    (when (t .«is_there») (octetsLine tailWord (cut m (t .tail))))
+    (when (t .«is_there») (octetsLine stringWord (standing m (t .string))))
+    (when (t .«is_there») (octetsLine tailWord (standing m (t .tail))))
     _ _ _ _ _ _ (omega (arith, b, c .before .before .before .before .before .before .before .before .before .before .before .before .before .before .before .before .before .before .before .before .before .before .pre)) (u .0, u .1 .0) (v .0, v .1 .0) (w .0, w .1 .0) in
     (j .0, (j .1, b))
 
