@@ -22,11 +22,9 @@ use Rattle.answers.specs.declared.answer.Asks.the-variants.{Passed, Uncl
 use Rattle.answers.specs.Answers.{State, Said, says, notUnderstood, tooLong, made, call, image, asksOf, octetsAt, onOctets, byAsks, answer, answerLine, Makes, Calls, Answers}
 use Rattle.answers.proofs.PageLaws.{front-back, lent-back, front-is}
 
-abbrev pub state : List ℕ → ℕ → ℕ → State
-state space size room = record { table = take size space; room = room }
-
 -- the image and the room stay
-pub stays : (d : Said) (space page after text : List ℕ) (size room room′ written : ℕ) → d ≡ says text (state space size room′) → length space ≡ 300 → size ≤ 300 → room ≤ 300 → room ≡ room′
+pub stays : (d : Said) (space page after text : List ℕ) (size room room′ written : ℕ)
+    → d ≡ says text (record { table = take size space; room = room′ }) → length space ≡ 300 → size ≤ 300 → room ≤ 300 → room ≡ room′
     → (after ≡ splice page 0 text) × (written ≡ length text) → written ≤ 70000
     → Answers d space space page after (record { size = size; room = room; written = written })
 stays d space page after text size room room′ written e l h k same w b =
@@ -60,7 +58,7 @@ module _ (n : ℕ) (s : State) where
 module _ (c : Command) (space table buffer p page after : List ℕ) (size room r : ℕ) where
   pub lent : size ≤ length space → buffer ≡ replicate room 0 → length table ≡ length (take size space)
       → Makes (made (take size space) buffer p c) table page after r
-      → Calls (call c (state space size room) p) size space (table ++ drop size space) page after r
+      → Calls (call c (record { table = take size space; room = room }) p) size space (table ++ drop size space) page after r
   lent h b k m =
       let l : length table ≡ size = k ∙ length-take-le size space h in
       let e : table ≡ made (take size space) (replicate room 0) p c .table = m .0 ∙ ap (λ (x : List ℕ). made (take size space) x p c .table) b in
