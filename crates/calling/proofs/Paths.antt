@@ -14,9 +14,8 @@ use Rattle.codes.specs.Operations.{begins}
 use Rattle.codes.specs.Errors.{listed}
 use Rattle.codes.proofs.IdLaws.{asHeld, IsId, held-is}
 use Rattle.parameters.specs.Suits.{suits, noneOrOne, InvokeWritten, ResultWritten}
-use Rattle.components.specs.Component.{invoke, error}
-use Rattle.components.specs.Written.{componentOctets, answer, codedLength, answerLength}
-use Rattle.messages.specs.Layout.{sentFirst, register, facilityMessage, release}
+use Rattle.components.specs.Written.{codedLength, answerLength}
+use Rattle.messages.specs.Layout.{sentFirst}
 use Rattle.table.specs.Table.{entryNumber, named, entryAt, valid, lowestClosed}
 use Rattle.table.specs.Seen.{invokeSeen, slotSeen}
 use Rattle.table.specs.declared.Slot.{Slot}

@@ -1,5 +1,5 @@
 -- Ids and octets: there and back, both ways; the worked values.
-use mathlib.Core.Path.{_≡_, refl, sym, ap, _∙_}
+use mathlib.Core.Path.{_≡_, refl, ap, _∙_}
 use Prim.Native.Nat.{ℕ, _<_}
 use lib.IntN.{ℤ, pos, negsuc}
 use mir.Syntax.{w8}

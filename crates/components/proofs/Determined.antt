@@ -5,7 +5,7 @@ use mathlib.Core.List.{List}
 use mathlib.Core.Option.{Option, none, some}
 use native.Mathlib.Omega.{arith}
 use lib.IntN.{ℤ}
-use lib.ListN.{length, drop, length-drop}
+use lib.ListN.{length, length-drop}
 use Rattle.parameters.specs.declared.text.Ussd.{Ussd}
 use Rattle.parameters.proofs.Determined.{ussd-determined}
 use Rattle.places.specs.Seen.{idSeen, last}

@@ -14,7 +14,7 @@ use Rattle.elements.specs.Element.{Element, element}
 use Rattle.codes.specs.Ids.{idOf}
 use Rattle.places.specs.Places.{single}
 use Rattle.components.specs.Component.{Component, invokeTag, rejectTag}
-use Rattle.components.specs.Facility.{Finding, empty, shows, general, leftOver, faultyReject, idRead, faulty, found, component, inside, outer, facility}
+use Rattle.components.specs.Facility.{empty, general, leftOver, faultyReject, idRead, found, component, inside, outer, facility}
 
 never : {C : Type 0} → _≡_ {A = ℕ} 0 1 → C
 never e = absurd (omega arith)

@@ -1,25 +1,25 @@
 -- A later edition shows the same component with the longer parameter, whose text is the same and whose tail is longer.
-use Prim.Native.Nat.{ℕ, _+_, _-_}
-use mathlib.Core.Path.{_≡_, refl, sym, ap, _∙_, subst}
-use mathlib.Core.List.{List, [], _∷_, _++_, append-assoc, append-nil}
+use Prim.Native.Nat.{ℕ}
+use mathlib.Core.Path.{_≡_, refl, sym, ap, _∙_}
+use mathlib.Core.List.{List, [], _∷_, _++_, append-assoc}
 use mathlib.Core.Bool.{Bool, true, false, cond, _&&_}
-use mathlib.Core.Option.{Option, none, some}
+use mathlib.Core.Option.{Option, some}
 use native.Mathlib.Omega.{arith}
 use borrow.Author.Tests.{le-leb}
-use lib.ListN.{length, take, drop}
+use lib.ListN.{length}
 use lib.Seq.{take-length, drop-length}
 use lib.IntN.{ℤ}
 use lib.Dec.{leb, eqb}
 use Rattle.octets.specs.Reader.{Answer, fault, sound, Taken, took, isEmpty, alone}
-use Rattle.octets.proofs.ReaderLaws.{sound-inj, not-sound, through, passed, empty-is, alone-is, Local, IsLocal, done-local, seq-local, need-local, cond-local, front-back, stays, taken-is}
-use Rattle.elements.specs.Element.{refusedTag, lengthOf, Element, element, shortest, written, row, unreadable}
+use Rattle.octets.proofs.ReaderLaws.{sound-inj, through, IsLocal, done-local, seq-local, need-local, cond-local, stays, taken-is}
+use Rattle.elements.specs.Element.{refusedTag, lengthOf, Element, element, written, row}
 use Rattle.elements.proofs.ElementLaws.{length-local, element-local}
 use Rattle.codes.specs.Ids.{idOf}
-use Rattle.places.specs.Places.{misplaced, octetIn, single, parameter, CalledPlaces, called, Coded, coded}
-use Rattle.parameters.specs.Parameter.{Text, holding, ussd}
+use Rattle.places.specs.Places.{misplaced, octetIn, single, parameter, called, Coded, coded}
+use Rattle.parameters.specs.Parameter.{Text, ussd}
 use Rattle.parameters.proofs.ParameterLaws.{ussd-more}
-use Rattle.components.specs.Component.{Component, invoke, result, error, reject, parameterOf, invokeTag, resultTag, rejectTag, invokeOf, resultOf, errorOf, rejectOf}
-use Rattle.components.specs.Facility.{Finding, shows, general, faultyReject, found, afterTag, component, inside, facility}
+use Rattle.components.specs.Component.{Component, invoke, result, parameterOf, invokeTag, resultTag, rejectTag, invokeOf, resultOf}
+use Rattle.components.specs.Facility.{shows, general, faultyReject, found, afterTag, component, inside, facility}
 use Rattle.components.specs.Written.{IsParameter}
 use Rattle.components.specs.LaterEdition.{Encloses, LaterParameter, LaterFacility, inInvoke, inResult, withParameter}
 use Rattle.components.proofs.ReadBack.{alone-back, facility-is, facility-written, inside-is}

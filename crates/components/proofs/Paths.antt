@@ -14,10 +14,10 @@ use borrow.Author.Tests.{eq-eqb, ne-eqb}
 use Rattle.octets.specs.Part.{between}
 use Rattle.octets.specs.Reader.{fault, sound, took, isEmpty}
 use Rattle.octets.proofs.PartLaws.{length-between, getD-between, to-end, none-between, rest-part}
-use Rattle.elements.specs.Element.{Element, element}
+use Rattle.elements.specs.Element.{element}
 use Rattle.codes.specs.Ids.{idOf}
 use Rattle.codes.specs.Problems.{problemTag}
-use Rattle.places.specs.Places.{misplaced, single, parameter, CalledPlaces, called, Coded, coded, rejected}
+use Rattle.places.specs.Places.{misplaced, single, parameter, CalledPlaces, called, coded, rejected}
 use Rattle.places.specs.Seen.{last}
 use Rattle.places.proofs.Left.{nothing-left, something-left, left-none, left-some, last-is, last-end}
 use Rattle.components.specs.Component.{Component, invoke, result, error, reject, parameterOf, invokeTag, rejectTag, invokeOf, resultOf, errorOf, rejectOf}

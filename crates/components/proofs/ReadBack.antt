@@ -1,27 +1,27 @@
 -- What is written for a component reads back as that component.
-use Prim.Native.Nat.{ℕ, _+_, _%_, _≤_}
-use mathlib.Core.Path.{_≡_, refl, sym, ap, _∙_}
+use Prim.Native.Nat.{ℕ, _%_}
+use mathlib.Core.Path.{_≡_, refl, _∙_}
 use mathlib.Core.List.{List, [], _∷_, _++_, append-nil}
-use mathlib.Core.Bool.{Bool, true, false, _&&_}
+use mathlib.Core.Bool.{true, false, _&&_}
 use mathlib.Core.Option.{Option, none, some}
 use native.Mathlib.Omega.{arith}
 use borrow.Author.Tests.{leb-true, ne-eqb}
 use lib.ListN.{length}
 use lib.IntN.{ℤ}
-use lib.Dec.{leb, eqb}
+use lib.Dec.{leb}
 use mir.Syntax.{w8}
 use mir.Val.{SFits}
-use Rattle.octets.specs.Reader.{Answer, fault, sound, Taken, took}
+use Rattle.octets.specs.Reader.{sound, took}
 use Rattle.octets.proofs.TestLaws.{both}
-use Rattle.elements.specs.Element.{refusedTag, Element, element, shortest, written}
+use Rattle.elements.specs.Element.{refusedTag, element, shortest, written}
 use Rattle.elements.proofs.ElementLaws.{written-reads-back}
-use Rattle.codes.specs.Ids.{idOf, octetOf}
+use Rattle.codes.specs.Ids.{octetOf}
 use Rattle.codes.specs.Problems.{problemTag}
 use Rattle.codes.proofs.IdLaws.{id-back}
-use Rattle.places.specs.Places.{single, parameter, CalledPlaces, called, Coded, coded, rejected}
+use Rattle.places.specs.Places.{single, called, coded, rejected}
 use Rattle.components.specs.Component.{Component, invoke, result, error, reject, invokeTag, resultTag, errorTag, rejectTag, invokeOf, resultOf, errorOf, rejectOf}
-use Rattle.components.specs.Facility.{Finding, shows, afterTag, component, inside, facility}
-use Rattle.components.specs.Written.{octetPlace, linkedPlace, resultPlace, rejectPlace, contents, tagOf, componentOctets, answer, IsParameter, IsSomeId, HoldsResult, Writable}
+use Rattle.components.specs.Facility.{shows, afterTag, component, inside, facility}
+use Rattle.components.specs.Written.{octetPlace, linkedPlace, resultPlace, rejectPlace, contents, componentOctets, answer, IsParameter, IsSomeId, HoldsResult, Writable}
 
 -- an element written alone
 pub alone-back : (tag : ℕ) (c : List ℕ) → refusedTag tag ≡ false → element (written tag c) ≡ took (record { tag = tag; contents = c }) []

@@ -3,11 +3,11 @@ use Prim.Native.Nat.{ℕ}
 use mathlib.Core.Path.{_≡_, refl}
 use mathlib.Core.List.{List, [], _∷_, _++_}
 use mathlib.Core.Option.{none, some}
-use lib.IntN.{ℤ, pos, negsuc}
+use lib.IntN.{pos, negsuc}
 use lib.ListN.{length, replicate}
 use Rattle.elements.specs.Element.{lengthOf, element, shortest}
 use Rattle.places.specs.Places.{single, parameter, called, coded, rejected}
-use Rattle.components.specs.Component.{Component, invoke, result, error, reject, invokeOf, resultOf, errorOf, rejectOf}
+use Rattle.components.specs.Component.{invoke, result, error, reject, invokeOf, resultOf, errorOf, rejectOf}
 use Rattle.components.specs.Facility.{empty, shows, general, leftOver, faultyReject, afterTag, component, inside, facility}
 use Rattle.components.specs.Written.{contents, componentOctets, answer}
 

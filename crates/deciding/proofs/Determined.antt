@@ -9,7 +9,6 @@ use lib.ListN.{length, take, length-take, length-drop}
 use Rattle.octets.specs.Reader.{Taken}
 use Rattle.places.specs.Seen.{idSeen}
 use Rattle.places.specs.declared.Id.{Id}
-use Rattle.components.specs.Component.{Component}
 use Rattle.components.specs.Facility.{general, shows}
 use Rattle.components.specs.Seen.{shownSeen, TextTold, parameterLength}
 use Rattle.components.specs.declared.shown.Shown.{Shown}

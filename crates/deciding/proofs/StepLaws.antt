@@ -2,7 +2,7 @@
 use Prim.Native.Nat.{ℕ}
 use mathlib.Core.Path.{_≡_, refl, sym}
 use mathlib.Core.List.{List}
-use mathlib.Core.Bool.{Bool, true, false, cond, _||_}
+use mathlib.Core.Bool.{Bool, true, false, cond}
 use lib.ListN.{length, getD, drop}
 use lib.Dec.{leb, eqb}
 use borrow.Author.Tests.{eqb-true}
@@ -11,7 +11,7 @@ use Rattle.table.specs.Table.{Entry, entryAt, valid}
 use Rattle.deciding.specs.Decision.{Decision, silent, withCause}
 use Rattle.deciding.specs.Steps.{firstOctet, pickedEntry, fourToSix, onRelease, decide}
 use Rattle.deciding.specs.Seen.{fromType}
-use Rattle.deciding.proofs.Paths.{type-unknown, closed-release, closed-facility, closed-ignored, closed-register, open-release, open-facility, open-register}
+use Rattle.deciding.proofs.Paths.{type-unknown}
 
 -- what becomes of each type
 unfoldable pub onType : Entry → ℕ → ℕ → List ℕ → Decision

@@ -3,14 +3,12 @@ use Prim.Native.Nat.{ℕ, _≤_, _<_}
 use mathlib.Core.Path.{_≡_}
 use mathlib.Core.List.{List}
 use mathlib.Core.Bool.{Bool, true, false, cond, not}
-use mathlib.Core.Option.{Option, none, some}
+use mathlib.Core.Option.{none, some}
 use lib.ListN.{length, take, drop}
 use lib.Dec.{eqb}
 use Rattle.octets.specs.Part.{between}
 use Rattle.octets.specs.Unless.{unless}
-use Rattle.octets.specs.Reader.{Taken}
 use Rattle.places.specs.Seen.{idSeen}
-use Rattle.components.specs.Component.{Component}
 use Rattle.components.specs.Seen.{shownSeen, TextTold, parameterLength}
 use Rattle.components.specs.Facility.{facility}
 use Rattle.messages.specs.Layout.{value, flag}

@@ -17,7 +17,7 @@ use Rattle.messages.specs.Types.{isKnown}
 use Rattle.messages.specs.Scan.{required, firstTaken}
 use Rattle.table.specs.Table.{Entry, entryNumber, entryAt, valid}
 use Rattle.judging.specs.StepSix.{Judged, problem, accepted, judgeInvoke, judgeResult, judgeError}
-use Rattle.components.specs.Shows.{ShownComponent, Shows}
+use Rattle.components.specs.Shows.{Shows}
 use Rattle.deciding.specs.Decision.{Decision, silent, withCause, withReject, onReject, released, taken, shownBy}
 
 abbrev pub firstOctet : List ℕ → ℕ

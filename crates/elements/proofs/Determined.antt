@@ -1,9 +1,9 @@
 -- The contracts leave one answer: two that say the same of a part, and lie within it, are equal.
-use Prim.Native.Nat.{ℕ, _-_, _≤_, _<_}
+use Prim.Native.Nat.{ℕ}
 use mathlib.Core.Path.{_≡_, refl, ap}
 use mathlib.Core.List.{List}
 use native.Mathlib.Omega.{arith}
-use lib.ListN.{length, take, drop, length-take, length-drop}
+use lib.ListN.{length, length-take, length-drop}
 use Rattle.octets.specs.Reader.{Taken}
 use Rattle.octets.proofs.ReaderLaws.{sound-inj}
 use Rattle.elements.specs.Element.{Element}

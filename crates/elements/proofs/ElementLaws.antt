@@ -1,18 +1,18 @@
 -- One element: it looks only at what it takes, what is written reads back, and the shortest form is the shortest.
-use Prim.Native.Nat.{ℕ, suc, _+_, _-_, _*_, _/_, _%_, _≤_, _<_}
-use mathlib.Core.Path.{_≡_, refl, sym, ap, _∙_}
+use Prim.Native.Nat.{ℕ, _+_, _*_, _/_, _%_, _≤_, _<_}
+use mathlib.Core.Path.{_≡_, refl, ap, _∙_}
 use mathlib.Core.List.{List, [], _∷_, _++_, append-assoc, append-nil}
-use mathlib.Core.Bool.{Bool, true, false, cond, not}
+use mathlib.Core.Bool.{Bool, true, false, not}
 use native.Mathlib.Omega.{arith}
-use native.Mathlib.Nat.{div-add-mod', div-lt-iff-lt-mul, mod-lt}
-use lib.ListN.{length, length-append}
+use native.Mathlib.Nat.{div-add-mod'}
+use lib.ListN.{length}
 use lib.Dec.{ltb, eqb}
 use borrow.Author.Tests.{ltb-true, ltb-false, lt-ltb, le-ltb}
 use Rattle.octets.specs.Octets.{Octets}
-use Rattle.octets.specs.Reader.{Answer, fault, sound, Taken, took, Reader, done, octet, front, isEmpty}
-use Rattle.octets.proofs.ReaderLaws.{sound-inj, not-sound, through, passed, Local, IsLocal, done-local, seq-local, need-local, cond-local, octet-local, front-local, front-back, stays, either, front-was, empty-is}
+use Rattle.octets.specs.Reader.{sound, Taken, took, done, octet, front, isEmpty}
+use Rattle.octets.proofs.ReaderLaws.{sound-inj, not-sound, through, passed, IsLocal, done-local, seq-local, need-local, cond-local, octet-local, front-local, front-back, stays, either, front-was, empty-is}
 use Rattle.octets.proofs.EndLaws.{Ends}
-use Rattle.elements.specs.Element.{missing, unreadable, refusedTag, twoOctets, lengthOf, Element, element, shortest, header, written}
+use Rattle.elements.specs.Element.{missing, unreadable, refusedTag, twoOctets, lengthOf, Element, element, shortest, written}
 
 pub length-local : IsLocal lengthOf
 unfolding lengthOf

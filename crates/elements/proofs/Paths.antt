@@ -1,17 +1,17 @@
 -- What the definitions say on each path through the code.
-use Prim.Native.Nat.{ℕ, _+_, _-_, _*_, _%_, _≤_, _<_}
-use mathlib.Core.Path.{_≡_, refl, sym, ap, _∙_}
+use Prim.Native.Nat.{ℕ, _+_, _-_, _*_, _≤_, _<_}
+use mathlib.Core.Path.{_≡_, refl}
 use mathlib.Core.List.{List}
 use mathlib.Core.Bool.{Bool, true, false}
 use native.Mathlib.Omega.{arith}
-use lib.ListN.{length, getD, take, drop}
+use lib.ListN.{length, getD, drop}
 use lib.Seq.{drop-drop}
 use lib.Dec.{ltb}
 use borrow.Author.Tests.{lt-ltb, le-ltb, ne-eqb, ltb-true, ltb-false}
 use Rattle.octets.specs.Part.{between}
 use Rattle.octets.specs.Reader.{fault, took}
 use Rattle.octets.proofs.ReaderLaws.{octet-at, octet-cut, front-at, front-cut}
-use Rattle.elements.specs.Element.{missing, unreadable, refusedTag, lengthOf, Element, element}
+use Rattle.elements.specs.Element.{missing, unreadable, refusedTag, lengthOf, element}
 
 module _ (s : List ℕ) where
   pub no-length : length s < 1 → fault unreadable ≡ lengthOf s

@@ -1,10 +1,9 @@
 -- Worked lengths, elements, tags and rows, as one claim, by computation.
-use Prim.Native.Nat.{ℕ}
 use mathlib.Core.Path.{_≡_, refl}
-use mathlib.Core.List.{List, [], _∷_}
+use mathlib.Core.List.{[], _∷_}
 use mathlib.Core.Bool.{true, false}
 use Rattle.octets.specs.Reader.{fault, took}
-use Rattle.elements.specs.Element.{missing, unreadable, lengthOf, Element, element, rowOf, row}
+use Rattle.elements.specs.Element.{missing, unreadable, lengthOf, element, rowOf, row}
 
 pub worked :
     -- the forms, shortest

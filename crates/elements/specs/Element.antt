@@ -1,7 +1,7 @@
 -- 01, "Elements and components", first paragraph: one element, a row of elements, and how they are written.
 use Prim.Native.Nat.{ℕ, zero, suc, _+_, _*_, _/_, _%_}
 use mathlib.Core.List.{List, [], _∷_, _++_}
-use mathlib.Core.Bool.{Bool, true, false, cond, not, _||_}
+use mathlib.Core.Bool.{Bool, false, cond, not, _||_}
 use lib.ListN.{length}
 use lib.Dec.{ltb, eqb}
 use Rattle.octets.specs.Reader.{Answer, fault, sound, Taken, Reader, seq, done, need, octet, front, isEmpty}

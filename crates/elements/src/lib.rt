@@ -1,7 +1,6 @@
 // Elements: one tag octet, a length, contents. Readers get a part and can't read outside it.
 ghost use mathlib.Core.Path.{_≡_};
 ghost use Prim.Native.Nat.{_+_, _≤_, _<_};
-ghost use mathlib.Core.List.{_++_};
 ghost use lib.ListN.{length};
 ghost use Rattle.octets.specs.Splice.{splice};
 ghost use Rattle.elements.specs.Element.{row, shortest, header};

@@ -1,13 +1,10 @@
 -- The contracts leave one answer: two that say the same are equal.
-use Prim.Native.Nat.{ℕ}
 use mathlib.Core.Path.{_≡_}
 use Rattle.components.specs.Component.{Component}
 use Rattle.components.proofs.Determined.{text-determined}
 use Rattle.table.specs.Table.{Entry}
-use Rattle.table.specs.Seen.{slotSeen}
-use Rattle.table.specs.declared.Slot.{Slot}
 use Rattle.table.proofs.Determined.{slot-determined}
-use Rattle.judging.specs.StepSix.{Judged, accepted}
+use Rattle.judging.specs.StepSix.{accepted}
 use Rattle.judging.specs.Seen.{judgementSeen, JudgementText}
 use Rattle.judging.specs.declared.Judgement.{Judgement}
 

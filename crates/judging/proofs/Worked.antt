@@ -8,9 +8,9 @@ use lib.IntN.{pos}
 use Rattle.elements.specs.Element.{lengthOf, element, rowOf, row}
 use Rattle.codes.specs.Errors.{listed}
 use Rattle.parameters.specs.Parameter.{string, text, ussdContents, ussd, ssForBsContents}
-use Rattle.parameters.specs.Suits.{suitsInvokeReceived, suitsResultReceived, suitsInvokeWritten, suitsResultWritten, suits}
+use Rattle.parameters.specs.Suits.{suitsInvokeReceived, suitsResultReceived, suits}
 use Rattle.table.specs.Table.{Waiting, Entry}
-use Rattle.judging.specs.StepSix.{Judged, problem, accepted, among, full, operationOf, without, linkedProblem, judgeInvoke, isOurs, judgeResult, judgeError}
+use Rattle.judging.specs.StepSix.{problem, accepted, among, full, operationOf, without, linkedProblem, judgeInvoke, isOurs, judgeResult, judgeError}
 
 abbrev waiting : ℕ → ℕ → List Waiting
 waiting id operation = record { id = pos id; operation = operation } ∷ []

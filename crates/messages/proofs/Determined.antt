@@ -1,12 +1,12 @@
 -- The contracts leave one answer: two that say the same of a part, and lie within it, are equal.
-use Prim.Native.Nat.{ℕ, _-_}
+use Prim.Native.Nat.{ℕ}
 use mathlib.Core.Path.{_≡_, refl, sym, ap, _∙_}
 use mathlib.Core.Bool.{cond}
 use mathlib.Core.Option.{Option, none, some}
 use lib.Dec.{eqb}
 use mathlib.Core.List.{List}
 use native.Mathlib.Omega.{arith}
-use lib.ListN.{length, drop, length-take, length-drop}
+use lib.ListN.{length, length-take, length-drop}
 use Rattle.octets.specs.Reader.{Taken}
 use Rattle.octets.proofs.ReaderLaws.{sound-inj}
 use Rattle.messages.specs.Scan.{Information}

@@ -9,7 +9,7 @@ use lib.ListN.{length, getD, drop, drop-of-length-le}
 use lib.Seq.{drop-drop, drop-cons}
 use borrow.Author.Tests.{le-leb, lt-leb, eq-eqb, ne-eqb}
 use Rattle.octets.specs.Part.{between}
-use Rattle.octets.specs.Reader.{fault, sound, took}
+use Rattle.octets.specs.Reader.{fault, took}
 use Rattle.octets.proofs.ReaderLaws.{octet-at, octet-cut, front-at, front-cut}
 use Rattle.messages.specs.Layout.{mandatoryMissing, registerType, sized, mandatory}
 use Rattle.messages.specs.Scan.{absent, cut, information, clear, required, firstTaken}

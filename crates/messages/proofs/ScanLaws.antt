@@ -1,6 +1,6 @@
 -- Information elements and the mandatory part: they look only at what they take, the scans go on behind a whole element,
 -- and a longer Facility value in the place of another is found where that one was.
-use Prim.Native.Nat.{ℕ, zero, suc, _+_, _≤_, _<_}
+use Prim.Native.Nat.{ℕ, zero, suc, _≤_, _<_}
 use mathlib.Core.Path.{_≡_, refl, sym, ap, _∙_, subst}
 use mathlib.Core.List.{List, [], _∷_, _++_, append-assoc}
 use mathlib.Core.Bool.{Bool, true, false, cond, _&&_, _||_, and-true}

@@ -2,11 +2,11 @@
 use Prim.Native.Nat.{ℕ}
 use mathlib.Core.Path.{_≡_, refl, sym}
 use mathlib.Core.Bool.{Bool, true, false, cond, _||_, false≢true}
-use mathlib.Core.Option.{Option, none, some}
+use mathlib.Core.Option.{none, some}
 use native.Mathlib.Omega.{arith}
 use lib.Dec.{eqb}
 use Rattle.messages.specs.Layout.{releaseType, facilityType, registerType}
-use Rattle.messages.specs.Types.{isKnown, typeTold, TellsType}
+use Rattle.messages.specs.Types.{isKnown, TellsType}
 use Rattle.messages.specs.declared.layout.MessageType.{MessageType}
 use Rattle.messages.specs.declared.layout.MessageType.the-variants.{ReleaseComplete, Facility, Register, Unknown}
 

@@ -4,7 +4,7 @@ use mathlib.Core.List.{List, [], _∷_}
 use mathlib.Core.Bool.{Bool, true, false, cond}
 use lib.ListN.{length, take, drop}
 use lib.Dec.{leb}
-use Rattle.octets.specs.Reader.{Answer, fault, sound, Taken, took, Reader, andThen, check, octet, front}
+use Rattle.octets.specs.Reader.{Answer, fault, sound, took, Reader, andThen, check, octet, front}
 
 module _ (P : ℕ → Type 0) where
   abbrev pub Faults : {A : Type 0} → Answer A → Type 0

@@ -1,6 +1,6 @@
 -- Parts: how long they are, at the ends of a list, and a part of a part.
 use Prim.Native.Nat.{ℕ, zero, suc, _+_, _-_, _≤_, _<_, min}
-use mathlib.Core.Path.{_≡_, refl, sym, ap, _∙_}
+use mathlib.Core.Path.{_≡_, refl, sym, _∙_}
 use mathlib.Core.List.{List, [], _∷_}
 use native.Mathlib.Omega.{arith}
 use native.Mathlib.Nat.{sub-zero}
@@ -8,7 +8,7 @@ use lib.ListN.{length, take, drop, getD, length-take, length-drop, drop-of-lengt
 use mathlib.Core.Bool.{Bool, true, false}
 use lib.Dec.{leb}
 use borrow.Author.Tests.{leb-true, leb-false}
-use lib.Seq.{take-all, take-nil, take-take, drop-nil, drop-drop, getD-take, getD-drop}
+use lib.Seq.{take-all, take-nil, drop-nil, getD-take, getD-drop}
 use Rattle.octets.specs.Part.{between}
 
 pub length-between : (from to : ℕ) (s : List ℕ) → to ≤ length s → length (between from to s) ≡ to - from

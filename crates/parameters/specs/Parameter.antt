@@ -1,8 +1,7 @@
 -- 01, "Parameters". A parameter is a list of octets; no parameter is no octets, since no element has none.
 use Prim.Native.Nat.{ℕ}
 use mathlib.Core.List.{List}
-use mathlib.Core.Bool.{Bool, true, false, cond, not, _&&_, _||_}
-use mathlib.Core.Option.{Option, none, some}
+use mathlib.Core.Bool.{Bool, true, false, cond, _&&_, _||_}
 use lib.ListN.{length, getD}
 use lib.Dec.{leb, eqb}
 use Rattle.octets.specs.Reader.{Answer, fault, sound, Taken, Reader, andThen, seq, done, check, need, alone}

@@ -1,7 +1,7 @@
 -- Which parameter each operation takes, in each of the four places where a parameter stands.
 use Prim.Native.Nat.{ℕ}
 use mathlib.Core.List.{List}
-use mathlib.Core.Bool.{Bool, false, cond, _&&_, _||_}
+use mathlib.Core.Bool.{Bool, cond, _&&_, _||_}
 use lib.Dec.{leb, eqb}
 use Rattle.octets.specs.Reader.{isEmpty}
 use Rattle.parameters.specs.Parameter.{isSound, one, ussd, guidance, password, serviceCode, ssForBs}

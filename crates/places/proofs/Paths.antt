@@ -1,12 +1,12 @@
 -- What the definitions say on each path through the code that reads a place.
-use Prim.Native.Nat.{ℕ, _+_, _-_, _≤_, _<_}
-use mathlib.Core.Path.{_≡_, refl, sym, ap, _∙_}
+use Prim.Native.Nat.{ℕ, _+_, _-_, _≤_}
+use mathlib.Core.Path.{_≡_, refl, sym}
 use mathlib.Core.List.{List, [], _∷_}
 use mathlib.Core.Bool.{Bool, true, false}
 use mathlib.Core.Option.{none, some}
 use native.Mathlib.Omega.{arith}
 use native.Mathlib.Nat.{add-zero}
-use lib.ListN.{length, getD, drop, length-drop}
+use lib.ListN.{length, getD, drop}
 use lib.IntN.{ℤ}
 use lib.Seq.{drop-drop}
 use lib.Dec.{eqb}
@@ -16,7 +16,7 @@ use Rattle.octets.specs.Reader.{fault, sound, took, isEmpty}
 use Rattle.octets.proofs.PartLaws.{length-between, getD-between}
 use Rattle.elements.specs.Element.{Element, element}
 use Rattle.codes.specs.Ids.{idOf}
-use Rattle.places.specs.Places.{misplaced, octetIn, single, parameter, CalledPlaces, called, Coded, coded, rejected}
+use Rattle.places.specs.Places.{misplaced, octetIn, single, parameter, called, coded, rejected}
 use Rattle.places.specs.Seen.{last}
 use Rattle.places.proofs.Left.{nothing-left, something-left, left-none, left-some, last-is}
 

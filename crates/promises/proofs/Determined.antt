@@ -1,19 +1,19 @@
 -- The contracts leave one answer each.
-use Prim.Native.Nat.{ℕ, _-_, _≤_}
+use Prim.Native.Nat.{ℕ, _≤_}
 use mathlib.Core.Path.{_≡_, refl, sym, ap, _∙_}
 use mathlib.Core.List.{List, []}
 use mathlib.Core.Bool.{Bool, true, _||_}
 use lib.Dec.{eqb}
-use mathlib.Core.Option.{Option, none, some}
+use mathlib.Core.Option.{Option}
 use native.Mathlib.Omega.{arith}
 use lib.IntN.{ℤ}
 use lib.ListN.{length, drop, length-drop}
-use Rattle.octets.specs.Reader.{Answer, fault, sound, Taken}
+use Rattle.octets.specs.Reader.{Answer, Taken}
 use Rattle.octets.proofs.ReaderLaws.{sound-inj}
 use Rattle.parameters.specs.Seen.{Weighs}
 use Rattle.parameters.specs.Suits.{isUssd, suits, InvokeReceived, ResultReceived}
 use Rattle.places.specs.Places.{CalledPlaces, Coded}
-use Rattle.places.specs.Seen.{idSeen, singleSeen, SingleWithin, callsSeen, CallsWithin, lastSeen, last, codedSeen, CodedWithin, rejectedSeen, RejectedWithin}
+use Rattle.places.specs.Seen.{idSeen, singleSeen, SingleWithin, callsSeen, CallsWithin, lastSeen, codedSeen, CodedWithin, rejectedSeen, RejectedWithin}
 use Rattle.places.specs.declared.Id.{Id}
 use Rattle.places.specs.declared.Single.{Single}
 use Rattle.places.specs.declared.Calls.{Calls}

@@ -1,6 +1,6 @@
 -- Later editions piece by piece, and the messages that show a text, by computation.
 use mathlib.Core.Path.{refl}
-use mathlib.Core.List.{List, [], _∷_, _++_}
+use mathlib.Core.List.{[], _∷_, _++_}
 use Rattle.components.specs.LaterEdition.{inInvoke, inResult}
 use Rattle.messages.specs.LaterEdition.{nothing}
 use Rattle.promises.specs.LaterEdition.{inRegister, inFacility, inRelease}

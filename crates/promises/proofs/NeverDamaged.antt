@@ -2,27 +2,15 @@
 use Prim.Native.Nat.{ℕ, _+_, _*_, _≤_, _<_}
 use mathlib.Core.Path.{_≡_, refl}
 use mathlib.Core.List.{List}
-use mathlib.Core.Bool.{Bool, true, false, cond, not, _&&_, false≢true}
-use mathlib.Core.Option.{Option, none, some}
+use mathlib.Core.Bool.{true}
+use mathlib.Core.Option.{Option}
 use native.Mathlib.Omega.{arith}
-use lib.IntN.{ℤ}
 use lib.ListN.{length}
-use lib.Dec.{eqb}
 use Rattle.octets.specs.Reader.{Answer, fault, sound}
-use Rattle.octets.specs.Unless.{unless}
-use Rattle.codes.specs.Operations.{begins, serves}
-use Rattle.codes.specs.Errors.{listed}
-use Rattle.codes.specs.Problems.{invoke as invokeProblem, result as resultProblem, error as errorProblem}
-use Rattle.parameters.specs.Suits.{suits, InvokeReceived, ResultReceived}
-use Rattle.components.specs.Component.{Component, invoke, reject}
-use Rattle.components.specs.Component as component
-use Rattle.components.specs.Facility.{Finding, empty, shows, general, leftOver, faultyReject, facility}
-use Rattle.messages.specs.Layout.{value as valueOf, flag as flagOf}
-use Rattle.table.specs.Table.{Entry, closed, size, named, lowestClosed, entryAt, withEntry, valid, holds}
-use Rattle.table.proofs.TableLaws.{holds-at, valid-with}
-use Rattle.judging.specs.StepSix.{Judged, problem, accepted, among, full, operationOf, without, linkedProblem, orProblem, kept, withPeer, withoutOwn, isOurs, judgeInvoke, judgeResult, judgeError}
+use Rattle.table.specs.Table.{closed, size, named, lowestClosed, valid}
+use Rattle.table.proofs.TableLaws.{valid-with}
 use Rattle.deciding.specs.Decision.{Decision, silent, withCause, withReject, onReject, released, taken}
-use Rattle.deciding.specs.Steps.{firstOctet, pickedEntry, onJudged, stepSix, opened, fiveAndSix, decide}
+use Rattle.deciding.specs.Steps.{pickedEntry, decide}
 use Rattle.deciding.specs.Seen.{Ready}
 use Rattle.calling.specs.Calls.{Sending, sendBegin as toBegin, sendInvoke as toInvoke, sendResult, sendError, sendRelease}
 use Rattle.telephone.specs.Receive.{act, receive}
@@ -30,7 +18,7 @@ use Rattle.telephone.specs.Calls.{called, noValue, begin, invokeWithin, result,
 use Rattle.telephone.proofs.Paths.{entry-fits}
 use Rattle.promises.proofs.Kept.{Holds, decide-holds}
 use Rattle.promises.proofs.Silence.{isLoud, loud-ready}
-use Rattle.promises.proofs.Held.{holds-open, own-of, peer-of, one-kept, one-less, open-of, closed-holds}
+use Rattle.promises.proofs.Held.{closed-holds}
 use Rattle.promises.proofs.CallFacts.{Fine, fine-begin, fine-invoke, fine-result, fine-error, fine-release}
 use Rattle.promises.specs.NeverDamaged.{NeverDamaged}
 

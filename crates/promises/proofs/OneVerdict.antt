@@ -1,16 +1,14 @@
 -- Demand 1 holds.
-use Prim.Native.Nat.{ℕ, _+_, _*_, _≤_, _<_}
+use Prim.Native.Nat.{ℕ, _+_, _*_, _≤_}
 use mathlib.Core.Path.{_≡_, refl, sym, ap, _∙_}
-use mathlib.Core.List.{List, []}
-use mathlib.Core.Bool.{Bool, true, false, false≢true}
-use mathlib.Core.Option.{Option, none, some}
+use mathlib.Core.List.{List}
+use mathlib.Core.Bool.{true, false≢true}
+use mathlib.Core.Option.{Option, some}
 use native.Mathlib.Omega.{arith}
 use lib.IntN.{ℤ}
 use lib.ListN.{length}
-use lib.Dec.{leb, eqb}
 use Rattle.octets.specs.Reader.{Answer, fault, sound}
 use Rattle.octets.proofs.ReaderLaws.{through, passed}
-use Rattle.octets.specs.Splice.{splice}
 use Rattle.components.specs.Component.{reject}
 use Rattle.components.specs.Written.{componentOctets}
 use Rattle.messages.specs.Layout.{sentFirst, release as released-octets, releaseFacility}
@@ -21,13 +19,12 @@ use Rattle.deciding.specs.Decision.{Decision, silent, withCause, withReject, on
 use Rattle.deciding.specs.Steps.{pickedEntry, replyFirst, decide}
 use Rattle.deciding.specs.Seen.{Ready}
 use Rattle.calling.specs.Calls.{Sending, transaction, sendBegin as toBegin, sendInvoke as toInvoke, sendResult, sendError, sendRelease}
-use Rattle.telephone.specs.Outcome.{Outcome, untouched}
 use Rattle.telephone.specs.Receive.{sentBy, act, receive}
 use Rattle.telephone.specs.Calls.{called, noValue, begin, invokeWithin, result, error, release}
 use Rattle.telephone.proofs.Paths.{entry-fits, fitting-is}
 use Rattle.telephone.proofs.Shown.{some-inj}
 use Rattle.telephone.proofs.OutcomeLaws.{front-is, behind-stays, silent-untouched, others-kept}
-use Rattle.promises.specs.OneVerdict.{Writes, ChangesOnly, Closes, Verdict, ignored, EveryMessage, CallVerdict, refused, sent, Releases, EveryCall, Demand1}
+use Rattle.promises.specs.OneVerdict.{Writes, Closes, Verdict, ignored, EveryMessage, CallVerdict, refused, sent, Releases, EveryCall, Demand1}
 use Rattle.promises.specs.OneVerdict as row
 use Rattle.promises.proofs.CallFacts.{Fine, fine-begin, fine-invoke, fine-result, fine-error, fine-release, transaction-is}
 use Rattle.promises.proofs.Kept.{Holds, decide-holds}

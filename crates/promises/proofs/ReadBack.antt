@@ -10,14 +10,14 @@ use lib.Dec.{leb, eqb}
 use mir.Syntax.{w8}
 use mir.Val.{SFits}
 use Rattle.octets.specs.Reader.{Answer, fault, sound, Taken, took, andThen, check, isEmpty, alone}
-use Rattle.octets.proofs.ReaderLaws.{sound-inj, not-sound, through, passed}
+use Rattle.octets.proofs.ReaderLaws.{through, passed}
 use Rattle.elements.specs.Element.{Element, element}
 use Rattle.codes.specs.Operations.{begins}
 use Rattle.codes.specs.Errors.{listed}
 use Rattle.parameters.specs.Parameter.{mistyped, isSound, one, holding, contentsAre, ussd, isPassword, isServiceCode, ussdContents, password, serviceCode, ssForBs}
 use Rattle.parameters.specs.Suits.{anyOne, isUssd, noneOrOne, noneOrUssd, suitsInvokeWritten, suitsResultWritten, suits, InvokeWritten, ResultWritten}
 use Rattle.places.specs.Places.{misplaced, parameter}
-use Rattle.components.specs.Component.{Component, invoke, error, reject}
+use Rattle.components.specs.Component.{Component, invoke, error}
 use Rattle.components.specs.Facility.{shows, facility}
 use Rattle.components.specs.Written.{componentOctets, answer, IsParameter, Writable}
 use Rattle.components.proofs.ReadBack.{read-back, answer-writable}

@@ -1,6 +1,6 @@
 -- Every Reject that a verdict sends can be written: its id is one octet's, its problem has one of the four tags.
 use Prim.Native.Nat.{ℕ, _<_}
-use mathlib.Core.Path.{_≡_, refl, sym, ap, subst, _∙_}
+use mathlib.Core.Path.{_≡_, refl, ap, subst, _∙_}
 use mathlib.Core.List.{List, [], _∷_, _++_}
 use mathlib.Core.Bool.{Bool, true, false, cond, not, _&&_, false≢true}
 use mathlib.Core.Option.{Option, none, some}
@@ -12,18 +12,18 @@ use mir.Syntax.{w8}
 use mir.Val.{SFits}
 use Rattle.codes.proofs.IdLaws.{is-id}
 use Rattle.octets.specs.Octets.{Octets}
-use Rattle.octets.specs.Reader.{Answer, fault, sound, Taken, took, andThen, check, octet, front, isEmpty, alone}
+use Rattle.octets.specs.Reader.{Answer, fault, sound, Taken, andThen, check, octet, front, isEmpty, alone}
 use Rattle.octets.specs.Unless.{unless}
 use Rattle.octets.proofs.OctetsLaws.{octets-take, octets-drop}
-use Rattle.octets.proofs.ReaderLaws.{sound-inj, not-sound, through, passed, rest-octets, octet-local}
+use Rattle.octets.proofs.ReaderLaws.{sound-inj, through, passed, rest-octets, octet-local}
 use Rattle.elements.specs.Element.{Element, missing, unreadable, refusedTag, lengthOf, element}
-use Rattle.elements.proofs.ElementLaws.{length-local, element-local}
+use Rattle.elements.proofs.ElementLaws.{length-local}
 use Rattle.codes.specs.Ids.{idOf}
 use Rattle.codes.specs.Problems.{problemTag}
 use Rattle.places.specs.Places.{misplaced, single}
 use Rattle.components.specs.Component.{Component, invoke, result, error, reject, rejectTag, invokeTag, resultTag, invokeOf, resultOf, errorOf, rejectOf}
-use Rattle.components.specs.Facility.{Finding, empty, shows, general, leftOver, faultyReject, idRead, faulty, found, afterTag, component, inside, outer, facility}
-use Rattle.components.specs.Written.{IsSomeId, componentOctets, Writable}
+use Rattle.components.specs.Facility.{Finding, empty, shows, general, leftOver, faultyReject, idRead, found, afterTag, component, inside, outer, facility}
+use Rattle.components.specs.Written.{IsSomeId, componentOctets}
 use Rattle.components.proofs.ReadBack.{read-back}
 use Rattle.codes.specs.Operations.{serves}
 use Rattle.codes.specs.Errors.{listed}

@@ -1,7 +1,7 @@
 -- Demand 1: "A message of any length and content, in any state of the transaction table, gets the one verdict that 01 names,
 -- and so does each local call. Nobody is asked to check beforehand. A refused call writes nothing and changes no transaction;
 -- a verdict that sends a release writes that reply alone and closes its entry."
-use Prim.Native.Nat.{ℕ, _+_, _*_, _≤_}
+use Prim.Native.Nat.{ℕ, _≤_}
 use mathlib.Core.Path.{_≡_}
 use mathlib.Core.List.{List, []}
 use mathlib.Core.Bool.{Bool, true, _||_, _&&_}

@@ -1,14 +1,14 @@
 -- What is sent has 01's layout: its Facility value is found again, and its component reads back.
 use Prim.Native.Nat.{ℕ, _+_}
 use native.Mathlib.Omega.{arith}
-use mathlib.Core.Path.{_≡_, refl, sym, ap, _∙_}
-use mathlib.Core.List.{List, [], _∷_, _++_, append-nil}
+use mathlib.Core.Path.{_≡_, refl}
+use mathlib.Core.List.{List, [], _∷_, append-nil}
 use mathlib.Core.Bool.{true}
-use mathlib.Core.Option.{Option, none, some}
+use mathlib.Core.Option.{none, some}
 use lib.ListN.{length, drop}
 use Rattle.octets.specs.Reader.{took}
-use Rattle.messages.specs.Layout.{registerType, facilityType, releaseType, mandatory, register, facilityMessage, release, releaseCause, releaseFacility}
-use Rattle.messages.specs.Scan.{Information, information, clearOf, clear, required, firstOf, firstTaken, firstWhole}
+use Rattle.messages.specs.Layout.{registerType, facilityType, mandatory, register, facilityMessage, releaseCause, releaseFacility}
+use Rattle.messages.specs.Scan.{information, clearOf, clear, required, firstOf, firstTaken, firstWhole}
 use Rattle.messages.proofs.ScanLaws.{register-back, facility-back, information-back, first-step, clear-none}
 use Rattle.components.specs.Component.{Component}
 use Rattle.components.specs.Facility.{shows, facility}

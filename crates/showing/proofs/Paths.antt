@@ -12,7 +12,7 @@ use Rattle.octets.specs.Reader.{Answer, fault, sound, Taken, took}
 use Rattle.octets.proofs.PartLaws.{length-between}
 use Rattle.parameters.specs.Parameter.{Text, ussd, mistyped}
 use Rattle.parameters.specs.Seen.{refusal}
-use Rattle.places.specs.Seen.{idSeen, last}
+use Rattle.places.specs.Seen.{idSeen}
 use Rattle.places.specs.declared.Id.{Id}
 use Rattle.places.proofs.Left.{last-taken}
 use Rattle.components.specs.Component.{Component, parameterOf}
@@ -23,9 +23,8 @@ use Rattle.components.specs.declared.shown.Shown.{Shown}
 use Rattle.components.specs.declared.shown.Shown.the-variants.{Invoke, Result, Error, Reject}
 use Rattle.components.proofs.Paths.{parameter-shown}
 use Rattle.showing.specs.declared.Span.{Span}
-use Rattle.showing.specs.declared.ComponentView.{ComponentView}
 use Rattle.showing.specs.declared.TextView.{TextView}
-use Rattle.showing.specs.Views.{spanOf, isThere, idOr0, numberOr0, viewOf, componentView, textIn, textView, noText}
+use Rattle.showing.specs.Views.{spanOf, isThere, idOr0, numberOr0, viewOf, textView, noText}
 
 -- a part of what stands behind the two octets of the head
 pub span-at : (s : List ℕ) (a e : ℕ) → a ≤ e → e ≤ length s → spanOf (2 + length s) (between a e s) (drop e s) ≡ record { start = 2 + a; end = 2 + e }

@@ -1,22 +1,21 @@
 -- What every outcome keeps: the octets that are sent stand at the front of the buffer, what stands behind stays, and no
 -- entry but one changes.
 use Prim.Native.Nat.{ℕ, _+_, _*_, _≤_}
-use mathlib.Core.Path.{_≡_, refl, sym, ap, _∙_}
-use mathlib.Core.List.{List, [], _++_}
+use mathlib.Core.Path.{_≡_, refl, sym, ap}
+use mathlib.Core.List.{List}
 use mathlib.Core.Option.{none}
-use native.Mathlib.Omega.{arith}
 use lib.ListN.{length, take, drop}
 use lib.Seq.{take-append-seam, drop-append-seam}
-use Rattle.octets.specs.Reader.{Answer, fault, sound}
+use Rattle.octets.specs.Reader.{fault, sound}
 use Rattle.octets.specs.Splice.{splice}
 use Rattle.octets.proofs.SpliceLaws.{splice-front}
-use Rattle.table.specs.Table.{size, entryAt, withEntry}
+use Rattle.table.specs.Table.{size, entryAt}
 use Rattle.table.proofs.TableLaws.{others-stay}
 use Rattle.deciding.specs.Decision.{Decision, silent, withCause, withReject, onReject, released, taken}
 use Rattle.deciding.specs.Steps.{pickedEntry}
 use Rattle.calling.specs.Calls.{Sending}
-use Rattle.telephone.specs.Outcome.{Outcome, untouched}
-use Rattle.telephone.specs.Receive.{sentBy, tableBy, act}
+use Rattle.telephone.specs.Outcome.{untouched}
+use Rattle.telephone.specs.Receive.{sentBy, act}
 use Rattle.telephone.specs.Calls.{called}
 use Rattle.telephone.proofs.Paths.{splice-none}
 

@@ -1,13 +1,12 @@
 -- Each part of what is shown is found again at its place.
-use Prim.Native.Nat.{ℕ, _+_, _-_, _≤_}
+use Prim.Native.Nat.{ℕ, _+_}
 use mathlib.Core.Path.{_≡_, refl, sym, ap, _∙_, subst}
-use mathlib.Core.List.{List, [], _∷_, _++_, append-assoc}
-use mathlib.Core.Bool.{Bool, true, false, cond, false≢true}
+use mathlib.Core.List.{List, _++_, append-assoc}
+use mathlib.Core.Bool.{true, false≢true}
 use mathlib.Core.Option.{Option, none, some}
 use native.Mathlib.Omega.{arith}
 use lib.ListN.{length, getD, take, drop, take-append-drop, length-append}
 use lib.IntN.{ℤ}
-use Rattle.octets.specs.Part.{between}
 use Rattle.octets.specs.Reader.{Answer, fault, sound, Taken}
 use Rattle.octets.proofs.EndLaws.{Ends, further-ends, behind-ends, part-at}
 use Rattle.parameters.specs.Parameter.{Text}
@@ -25,12 +24,12 @@ use Rattle.judging.specs.StepSix.{Judged, problem, accepted, judgeInvoke, judge
 use Rattle.showing.specs.declared.Span.{Span}
 use Rattle.showing.specs.Views.{spanOf, standing, LiesIn, viewOf, componentView, textIn, textView, causeView}
 use Rattle.deciding.specs.Decision.{Decision, shownBy}
-use Rattle.deciding.specs.Steps.{stepFour, onJudged, stepSix, fiveAndSix, fourToSix, inRelease, onRelease, decide}
-use Rattle.deciding.proofs.StepLaws.{further, by-type, tested}
+use Rattle.deciding.specs.Steps.{stepFour, onJudged, stepSix, fiveAndSix, fourToSix, inRelease, onRelease}
+use Rattle.deciding.proofs.StepLaws.{by-type, tested}
 use Rattle.telephone.specs.Outcome.{Outcome}
 use Rattle.telephone.specs.Receive.{causeBy, act, receive}
 use Rattle.telephone.specs.FromC.{receivedOf}
-use Rattle.telephone.specs.Stands.{parameterShown, textShown, stringOf, tailOf, causeShown, InOrder, Stands}
+use Rattle.telephone.specs.Stands.{stringOf, tailOf, causeShown, InOrder, Stands}
 use Rattle.telephone.proofs.Shown.{nothing-shown, receive-shows, six-shows, five-shows, except-shows, text-is}
 
 -- from step 5 back to the whole message

@@ -11,7 +11,7 @@ use Rattle.messages.specs.Layout.{release, releaseCause, releaseFacility}
 use Rattle.table.specs.Table.{closed, withEntry}
 use Rattle.deciding.specs.Decision.{Decision, silent, withCause, withReject, onReject, released, taken, shownBy}
 use Rattle.deciding.specs.Steps.{pickedEntry, replyFirst, decide}
-use Rattle.telephone.specs.Outcome.{Outcome, untouched}
+use Rattle.telephone.specs.Outcome.{Outcome}
 
 -- "Verdict"
 abbrev pub verdictOf : Decision → ℕ

@@ -1,8 +1,3 @@
-use borrow.Author.Needs.{needs}
-use mathlib.Core.Path.{sym, ap}
-use mathlib.Core.List.{List}
-use Prim.Native.Nat.{ℕ, _+_}
-use lib.ListN.{length}
 use Rattle.elements.proofs.ElementLaws.{one-octet, two-octets, three-octets}
 use Rattle.elements.proofs.header_length.Statement.{statement}
 use Rattle.elements.proofs.header_length.Tie as tie

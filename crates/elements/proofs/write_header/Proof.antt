@@ -1,9 +1,5 @@
 use borrow.Author.Needs.{needs}
-use native.Mathlib.Omega.{arith}
-use mathlib.Core.Path.{_≡_, refl, sym, _∙_, ap}
-use mathlib.Core.List.{List, _∷_}
-use Prim.Native.Nat.{ℕ, _+_}
-use lib.ListN.{length}
+use mathlib.Core.Path.{refl}
 use Rattle.elements.proofs.ElementLaws.{one-octet, two-octets, three-octets}
 use Rattle.elements.proofs.write_header.Statement.{statement}
 use Rattle.elements.proofs.write_header.Tie as tie

@@ -1,6 +1,5 @@
 use borrow.Author.Needs.{needs}
 use native.Mathlib.Omega.{arith}
-use mathlib.Core.Path.{_∙_, sym}
 use Rattle.octets.proofs.PartLaws.{rest-part}
 use Rattle.places.proofs.Paths.{coded-none, coded-fault, coded-is}
 use Rattle.places.proofs.read_coded.Statement.{statement}

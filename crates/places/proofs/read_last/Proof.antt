@@ -1,5 +1,4 @@
 use borrow.Author.Needs.{needs}
-use native.Mathlib.Omega.{arith}
 use Rattle.places.proofs.Left.{problem-is, something-left}
 use Rattle.places.proofs.Paths.{no-parameter, parameter-fault, behind, lone}
 use Rattle.places.proofs.read_last.Statement.{statement}

@@ -1,10 +1,9 @@
 use borrow.Author.Needs.{needs}
 use native.Mathlib.Omega.{arith}
 use mathlib.Core.Path.{sym, _∙_}
-use mathlib.Core.Option.{none}
 use Rattle.codes.proofs.IdLaws.{held-is}
-use Rattle.components.specs.Component.{invoke, error}
-use Rattle.components.specs.Written.{componentOctets, answer}
+use Rattle.components.specs.Component.{error}
+use Rattle.components.specs.Written.{componentOctets}
 use Rattle.writing.proofs.WriteLaws.{error-octets}
 use Rattle.sending.proofs.SendLaws.{facility-joined, facility-length}
 use Rattle.sending.proofs.put_error.Statement.{statement}

@@ -1,6 +1,6 @@
 use borrow.Author.Needs.{needs}
 use native.Mathlib.Omega.{arith}
-use mathlib.Core.Path.{refl, sym, _∙_}
+use mathlib.Core.Path.{sym, _∙_}
 use mathlib.Core.Option.{none}
 use Rattle.codes.proofs.IdLaws.{held-is}
 use Rattle.components.specs.Component.{invoke}

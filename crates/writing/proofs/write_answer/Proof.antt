@@ -1,10 +1,9 @@
 use borrow.Author.Needs.{needs}
 use native.Mathlib.Omega.{arith}
-use mathlib.Core.Path.{_≡_, refl, sym, _∙_, ap}
-use mathlib.Core.List.{List, [], _∷_, _++_}
-use Prim.Native.Nat.{ℕ, _+_, _≤_}
+use mathlib.Core.Path.{_≡_, refl, sym, _∙_}
+use mathlib.Core.List.{List, [], _∷_}
+use Prim.Native.Nat.{ℕ}
 use lib.ListN.{length}
-use Rattle.codes.specs.Ids.{octetOf}
 use Rattle.elements.specs.Element.{written}
 use Rattle.writing.proofs.WriteLaws.{pieces, pieces-length, as-written, fits-as, answer-bare, answer-full, inner-length}
 use Rattle.codes.proofs.IdLaws.{handed}

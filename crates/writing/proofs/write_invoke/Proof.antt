@@ -1,6 +1,5 @@
 use borrow.Author.Needs.{needs}
 use native.Mathlib.Omega.{arith}
-use mathlib.Core.Path.{sym, _∙_}
 use Rattle.components.specs.Written.{contents}
 use Rattle.codes.proofs.IdLaws.{handed}
 use Rattle.writing.proofs.write_invoke.Statement.{statement}

@@ -1,4 +1,3 @@
-use borrow.Author.Needs.{needs}
 use borrow.Author.Tests.{eq-eqb, ne-eqb}
 use Rattle.components.proofs.facility.outer_fault.Statement.{statement}
 use Rattle.components.proofs.facility.outer_fault.Tie as tie

@@ -1,11 +1,9 @@
 use borrow.Author.Needs.{needs}
 use native.Mathlib.Omega.{arith}
 use mathlib.Core.Path.{sym, _∙_}
-use lib.ListN.{drop}
 use borrow.Author.Tests.{not-true, not-false}
 use Rattle.octets.proofs.PartLaws.{rest-part}
 use Rattle.elements.proofs.NotWhole.{not-whole}
-use Rattle.components.specs.Seen.{readingSeen}
 use Rattle.components.proofs.Paths.{reading-end, facility-empty, facility-tag, facility-outer, facility-left, facility-inside}
 use Rattle.components.proofs.facility.read_facility.Statement.{statement}
 use Rattle.components.proofs.facility.read_facility.Tie as tie

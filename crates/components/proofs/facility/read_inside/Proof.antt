@@ -1,7 +1,7 @@
 use borrow.Author.Needs.{needs}
 use native.Mathlib.Omega.{arith}
 use mathlib.Core.Path.{ap, sym, _∙_}
-use lib.ListN.{length, drop, length-drop}
+use lib.ListN.{length-drop}
 use Rattle.octets.proofs.PartLaws.{rest-part}
 use Rattle.components.specs.Facility.{shows}
 use Rattle.codes.proofs.IdLaws.{held}

@@ -3,9 +3,6 @@ use native.Mathlib.Omega.{arith}
 use Rattle.places.proofs.Left.{problem-is, something-left}
 use Rattle.codes.proofs.IdLaws.{held-is}
 use Rattle.components.proofs.Paths.{result-bare, result-none, result-tag, result-fault, result-behind, result-is}
-use Prim.Native.Nat.{_≤_}
-use lib.ListN.{length}
-use Rattle.octets.specs.Part.{between}
 use Rattle.octets.proofs.PartLaws.{length-between}
 use Rattle.components.proofs.kinds.read_result.Statement.{statement}
 use Rattle.components.proofs.kinds.read_result.Tie as tie

@@ -1,4 +1,3 @@
-use borrow.Author.Needs.{needs}
 use borrow.Author.Tests.{ne-eqb}
 use Rattle.messages.proofs.layout.type_of.Statement.{statement}
 use Rattle.messages.proofs.layout.type_of.Tie as tie

@@ -9,12 +9,12 @@ use Rattle.octets.specs.Reader.{fault, sound}
 use Rattle.octets.specs.Splice.{splice}
 use Rattle.codes.proofs.IdLaws.{held-is}
 use Rattle.components.specs.Component as component
-use Rattle.components.specs.Written.{componentOctets, answer}
+use Rattle.components.specs.Written.{componentOctets}
 use Rattle.messages.specs.Layout as layout
 use Rattle.table.specs.Seen.{slotSeen}
 use Rattle.calling.specs.Calls.{Sending}
 use Rattle.calling.specs.Calls as calls
-use Rattle.telephone.specs.Calls.{noValue, begin}
+use Rattle.telephone.specs.Calls.{begin}
 use Rattle.telephone.proofs.Paths.{refused-as, sent-as, begin-value, register-room}
 use Rattle.telephone.proofs.calls.smr_begin.Statement.{statement}
 use Rattle.telephone.proofs.calls.smr_begin.Tie as tie
