@@ -19,21 +19,21 @@ use Rattle.reports.specs.Words.{tableWord, bufferWord, tableSet}
 use Rattle.answers.specs.declared.answer.Held.{Held}
 use Rattle.answers.specs.declared.answer.Asks.{Asks}
 use Rattle.answers.specs.declared.answer.Asks.the-variants.{Passed, Unclear, Room, Image, Call}
-use Rattle.answers.specs.Answers.{State, Said, says, notUnderstood, tooLong, made, call, image, asksOf, octetsAt, onOctets, byAsks, answer, answerLine, Makes, Calls, Answers}
+use Rattle.answers.specs.Answers.{State, Said, says, notUnderstood, tooLong, made, call, image, asksOf, octetsAt, onOctets, byAsks, answer, answerLine, Makes, MakesCall, AnswersLine}
 use Rattle.answers.proofs.PageLaws.{front-back, lent-back, front-is}
 
 -- the image and the room stay
 pub stays : (d : Said) (space page after text : List ℕ) (size room room′ written : ℕ)
     → d ≡ says text (record { table = take size space; room = room′ }) → length space ≡ 300 → size ≤ 300 → room ≤ 300 → room ≡ room′
     → (after ≡ splice page 0 text) × (written ≡ length text) → written ≤ 70000
-    → Answers d space space page after (record { size = size; room = room; written = written })
+    → AnswersLine d space space page after (record { size = size; room = room; written = written })
 stays d space page after text size room room′ written e l h k same w b =
     rw e (sym (front-back space size (omega arith)), (w .0, (λ i. record { size = sym (length-take-le size space (omega arith)) i; room = same i; written = w .1 i }, (h, (k, b)))))
 
 -- the image is set
 pub sets : (d : Said) (space image page after text p : List ℕ) (room written : ℕ) → d ≡ says text (record { table = p; room = room }) → length p ≤ 300 → room ≤ 300
     → image ≡ splice space 0 p → (after ≡ splice page 0 text) × (written ≡ length text) → written ≤ 70000
-    → Answers d space image page after (record { size = length p; room = room; written = written })
+    → AnswersLine d space image page after (record { size = length p; room = room; written = written })
 sets d space image page after text p room written e h k q w b =
     rw e (q, (w .0, (λ i. record { size = length p; room = room; written = w .1 i }, (h, (k, b)))))
 
@@ -58,7 +58,7 @@ module _ (n : ℕ) (s : State) where
 module _ (c : Command) (space table buffer p page after : List ℕ) (size room r : ℕ) where
   pub lent : size ≤ length space → buffer ≡ replicate room 0 → length table ≡ length (take size space)
       → Makes (made (take size space) buffer p c) table page after r
-      → Calls (call c (record { table = take size space; room = room }) p) size space (table ++ drop size space) page after r
+      → MakesCall (call c (record { table = take size space; room = room }) p) size space (table ++ drop size space) page after r
   lent h b k m =
       let l : length table ≡ size = k ∙ length-take-le size space h in
       let e : table ≡ made (take size space) (replicate room 0) p c .table = m .0 ∙ ap (λ (x : List ℕ). made (take size space) x p c .table) b in
@@ -69,8 +69,8 @@ module _ (c : Command) (space table buffer p page after : List ℕ) (size room r
 
 -- an answer of a call as one of the line
 module _ (d : Said) (c : Command) (s : State) (p space image page after : List ℕ) (size room written : ℕ) where
-  pub by-call : d ≡ call c s p → s .room ≡ room → size ≤ 300 → room ≤ 300 → Calls (call c s p) size space image page after written
-      → Answers d space image page after (record { size = size; room = room; written = written })
+  pub by-call : d ≡ call c s p → s .room ≡ room → size ≤ 300 → room ≤ 300 → MakesCall (call c s p) size space image page after written
+      → AnswersLine d space image page after (record { size = size; room = room; written = written })
   by-call e f h k a =
       rw e (a .0, (a .1 .1 .0, ((λ i. record { size = sym (a .1 .0) i; room = sym f i; written = a .1 .1 .1 .0 i }), (h, (k, a .1 .1 .1 .1)))))
 
@@ -99,7 +99,7 @@ pub row-is : (zeros t row : List ℕ) (n : ℕ) → n ≡ length t → row ≡ s
 row-is zeros t row n e f = sym (ap (λ (x : List ℕ). take n x) f ∙ front-is zeros t n e)
 
 -- one answer as another
-pub same : (d e : Said) (space image page after : List ℕ) (h : Held) → d ≡ e → Answers e space image page after h → Answers d space image page after h
+pub same : (d e : Said) (space image page after : List ℕ) (h : Held) → d ≡ e → AnswersLine e space image page after h → AnswersLine d space image page after h
 same d e space image page after h q a = rw q a
 
 module _ (n : ℕ) (line : List ℕ) (s : State) (c : Command) (q : c ≡ commands.command line) where

@@ -129,8 +129,8 @@ unfoldable pub answerLine : ℕ → List ℕ → ℕ → State → Said
 answerLine n line have s = cond (ltb longest have) (says (tooLong n) s) (answer n (take have line) s)
 
 -- what the code holds from line to line, as a state: the image stands at the front of its space
-abbrev pub stateOf : List ℕ → Held → State
-stateOf space held = record { table = take (held .size) space; room = held .room }
+abbrev pub benchState : List ℕ → Held → State
+benchState space held = record { table = take (held .size) space; room = held .room }
 
 -- what the code holds of an answer
 abbrev pub heldOf : Said → Held
@@ -144,11 +144,11 @@ abbrev pub Makes : Made → List ℕ → List ℕ → List ℕ → ℕ → Type 
 Makes m table page after written = (table ≡ m .table) × Filled 70000 page (m .text) after written
 
 -- of one over the image in its space: the image is as long as it was
-abbrev pub Calls : Said → ℕ → List ℕ → List ℕ → List ℕ → List ℕ → ℕ → Type 0
-Calls said size space image page after written =
+abbrev pub MakesCall : Said → ℕ → List ℕ → List ℕ → List ℕ → List ℕ → ℕ → Type 0
+MakesCall said size space image page after written =
     (image ≡ splice space 0 (said .state .table)) × ((length (said .state .table) ≡ size) × Filled 70000 page (said .text) after written)
 
 -- of an answer: what it says of the image and in its text, and what the code holds of both
-abbrev pub Answers : Said → List ℕ → List ℕ → List ℕ → List ℕ → Held → Type 0
-Answers said space image page after held =
+abbrev pub AnswersLine : Said → List ℕ → List ℕ → List ℕ → List ℕ → Held → Type 0
+AnswersLine said space image page after held =
     (image ≡ splice space 0 (said .state .table)) × ((after ≡ splice page 0 (said .text)) × ((held ≡ heldOf said) × Sound held))

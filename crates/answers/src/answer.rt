@@ -11,7 +11,7 @@ ghost use mathlib.Core.Path.{_≡_};
 ghost use Prim.Native.Nat.{_≤_};
 ghost use lib.ListN.{length};
 ghost use Rattle.printing.specs.Page.{Filled};
-ghost use Rattle.answers.specs.Answers.{notUnderstood, tooLong, made, call, image, asksOf, onOctets, answer, answerLine, stateOf, Makes, Calls, Answers};
+ghost use Rattle.answers.specs.Answers.{notUnderstood, tooLong, made, call, image, asksOf, onOctets, answer, answerLine, benchState, Makes, MakesCall, AnswersLine};
 
 // What a command asks for; octets in hex begin at a place of the line.
 pub enum Asks {
@@ -189,7 +189,7 @@ fn make(
 // Prints the image, or sets it.
 fn on_image(space: &mut [u8], held: Held, octets: &[u8], number: u64, page: &mut [u8]) -> Held
     requires { ⌜ (length (now space) ≡ 300) × ((held .size ≤ 300) × ((held .room ≤ 300) × (70000 ≤ length (now page)))) ⌝ }
-    ensures { λ r. ⌜ Answers (image number (stateOf (now (space .entry)) held) (now (octets .entry)))
+    ensures { λ r. ⌜ AnswersLine (image number (benchState (now (space .entry)) held) (now (octets .entry)))
         (now (space .entry)) (now (space .exit)) (now (page .entry)) (now (page .exit)) r ⌝ }
 {
     let size = held.size;
@@ -223,7 +223,7 @@ fn on_image(space: &mut [u8], held: Held, octets: &[u8], number: u64, page: &mut
 // Makes a call over the image, with a cleared buffer.
 fn on_call(space: &mut [u8], held: Held, octets: &[u8], command: Command, page: &mut [u8]) -> usize
     requires { ⌜ (length (now space) ≡ 300) × ((held .size ≤ 300) × ((held .room ≤ 300) × ((length (now octets) ≤ 4096) × (70000 ≤ length (now page))))) ⌝ }
-    ensures { λ r. ⌜ Calls (call command (stateOf (now (space .entry)) held) (now (octets .entry))) (held .size)
+    ensures { λ r. ⌜ MakesCall (call command (benchState (now (space .entry)) held) (now (octets .entry))) (held .size)
         (now (space .entry)) (now (space .exit)) (now (page .entry)) (now (page .exit)) r ⌝ }
 {
     let size = held.size;
@@ -250,7 +250,7 @@ fn on_octets(
     page: &mut [u8],
 ) -> Held
     requires { ⌜ (length (now space) ≡ 300) × ((held .size ≤ 300) × ((held .room ≤ 300) × (70000 ≤ length (now page)))) ⌝ }
-    ensures { λ r. ⌜ Answers (onOctets number (now (line .entry)) at «is_image» command (stateOf (now (space .entry)) held))
+    ensures { λ r. ⌜ AnswersLine (onOctets number (now (line .entry)) at «is_image» command (benchState (now (space .entry)) held))
         (now (space .entry)) (now (space .exit)) (now (page .entry)) (now (page .exit)) r ⌝ }
 {
     let size = held.size;
@@ -293,7 +293,7 @@ fn on_octets(
 // A line's answer.
 fn answer(line: &[u8], number: u64, space: &mut [u8], held: Held, page: &mut [u8]) -> Held
     requires { ⌜ (length (now space) ≡ 300) × ((held .size ≤ 300) × ((held .room ≤ 300) × (70000 ≤ length (now page)))) ⌝ }
-    ensures { λ r. ⌜ Answers (answer number (now (line .entry)) (stateOf (now (space .entry)) held))
+    ensures { λ r. ⌜ AnswersLine (answer number (now (line .entry)) (benchState (now (space .entry)) held))
         (now (space .entry)) (now (space .exit)) (now (page .entry)) (now (page .exit)) r ⌝ }
 {
     let size = held.size;
@@ -344,7 +344,7 @@ pub fn answer_line(
     page: &mut [u8],
 ) -> Held
     requires { ⌜ (length (now line) ≡ 16384) × ((length (now space) ≡ 300) × ((held .size ≤ 300) × ((held .room ≤ 300) × (70000 ≤ length (now page))))) ⌝ }
-    ensures { λ r. ⌜ Answers (answerLine number (now (line .entry)) have (stateOf (now (space .entry)) held))
+    ensures { λ r. ⌜ AnswersLine (answerLine number (now (line .entry)) have (benchState (now (space .entry)) held))
         (now (space .entry)) (now (space .exit)) (now (page .entry)) (now (page .exit)) r ⌝ }
 {
     if 16384 < have {

@@ -25,7 +25,7 @@ use Rattle.table.proofs.TableLaws.{valid-each, lowest-closed-is}
 use Rattle.judging.specs.StepSix.{among, full, operationOf}
 use Rattle.judging.proofs.Paths.{room as none-waits, cleared}
 use Rattle.calling.specs.Calls.{Sending, transaction, fitting, sendBegin, sendInvoke, sendResult, sendError, sendRelease}
-use Rattle.calling.specs.Seen.{callSeen, CallWithin, lengthRefusal, NamedWithin, begun, invoked, answered, erred, ended}
+use Rattle.calling.specs.Seen.{callSeen, CallWithin, lengthRefusal, NamedWithin, begun, invoked, answered, erred, releaseSent}
 use Rattle.calling.specs.declared.Call.{Call}
 use Rattle.calling.proofs.Lengths.{too-long, refused, fits, register-octets, facility-invoke, facility-error, facility-answer, long-answer}
 
@@ -290,6 +290,6 @@ module _ (table : List ℕ) (room flag value : ℕ) where
       release-short h = rw (d, ← t, lt-leb 2 room h)
 
       pub release-goes : 2 ≤ room → NamedWithin flag value (Named.At k)
-          → (callSeen (ended flag value) (Call.Goes k closedSlot 0) ≡ sendRelease table room flag value) × CallWithin table room flag value (ended flag value) (Call.Goes k closedSlot 0)
+          → (callSeen (releaseSent flag value) (Call.Goes k closedSlot 0) ≡ sendRelease table room flag value) × CallWithin table room flag value (releaseSent flag value) (Call.Goes k closedSlot 0)
       unfolding sendRelease fitting
       release-goes h w = (rw (d, ← t, le-leb 2 room h), (within table k d (w .1 .1), (w .0, (w .1 .0, (omega arith, h)))))

@@ -52,8 +52,8 @@ answered flag value id p k o = facilityMessage (sentFirst flag value) (component
 abbrev pub erred : ℕ → ℕ → ℤ → ℕ → List ℕ → ℕ → ℕ → List ℕ
 erred flag value id code p k o = facilityMessage (sentFirst flag value) (componentOctets (error id code p))
 
-abbrev pub ended : ℕ → ℕ → ℕ → ℕ → List ℕ
-ended flag value k o = release (sentFirst flag value)
+abbrev pub releaseSent : ℕ → ℕ → ℕ → ℕ → List ℕ
+releaseSent flag value k o = release (sentFirst flag value)
 
 abbrev pub DecidesBegin : List ℕ → ℕ → ℕ → ℤ → List ℕ → Call → Type 0
 DecidesBegin table room operation id p call =
@@ -73,7 +73,7 @@ DecidesError table room flag value id code p call =
 
 abbrev pub DecidesRelease : List ℕ → ℕ → ℕ → ℕ → Call → Type 0
 DecidesRelease table room flag value call =
-    DecidesCall (sendRelease table room flag value) (ended flag value) (λ k. 0) table room flag value call
+    DecidesCall (sendRelease table room flag value) (releaseSent flag value) (λ k. 0) table room flag value call
 
 -- the refusal of a message by its length; 0 where it fits
 abbrev pub lengthRefusal : ℕ → ℕ → ℕ

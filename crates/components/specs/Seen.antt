@@ -73,8 +73,8 @@ ReadingWithin s Reading.LeftOver = Unit {0}
 ReadingWithin s Reading.FaultyReject = Unit {0}
 
 -- the definition's finding
-abbrev pub Reads : Finding → List ℕ → Reading → Type 0
-Reads definition s reading = (readingSeen s reading ≡ definition) × ReadingWithin s reading
+abbrev pub ReadsFinding : Finding → List ℕ → Reading → Type 0
+ReadsFinding definition s reading = (readingSeen s reading ≡ definition) × ReadingWithin s reading
 
 -- the answer where the outer length can't be read
 abbrev pub outerFault : ℕ → Reading

@@ -7,7 +7,7 @@ use places::Single;
 ghost use mathlib.Core.Path.{_≡_};
 ghost use Rattle.octets.specs.Part.{placeAt};
 ghost use Rattle.components.specs.Facility.{facility, inside, afterTag, parameterIn, parameterStart};
-ghost use Rattle.components.specs.Seen.{ReadsKind, Reads, outerFault};
+ghost use Rattle.components.specs.Seen.{ReadsKind, ReadsFinding, outerFault};
 
 pub enum Reading {
     Empty,
@@ -32,7 +32,7 @@ fn read_after_id(s: &[u8], tag: u8, id: i8) -> Kind
 
 // The contents under an outer tag.
 fn read_inside(s: &[u8], tag: u8) -> Reading
-    ensures { λ r. ⌜ Reads (inside tag (now (s .entry))) (now (s .entry)) r ⌝ }
+    ensures { λ r. ⌜ ReadsFinding (inside tag (now (s .entry))) (now (s .entry)) r ⌝ }
 {
     if tag == 0xA4 {
         let Kind::Is(shown) = super::kinds::read_reject(s) else {
@@ -73,7 +73,7 @@ fn outer_fault(tag: u8) -> Reading
 
 // What a Facility value says.
 pub fn read_facility(s: &[u8]) -> Reading
-    ensures { λ r. ⌜ Reads (facility (now (s .entry))) (now (s .entry)) r ⌝ }
+    ensures { λ r. ⌜ ReadsFinding (facility (now (s .entry))) (now (s .entry)) r ⌝ }
 {
     if s.len() == 0 {
         return Reading::Empty;

@@ -34,8 +34,8 @@ unfoldable pub replyFirst : List ℕ → ℕ
 replyFirst m = sentFirst (flag (firstOctet m)) (value (firstOctet m))
 
 -- "First 28, then 27 (reply buffer under 12 octets), then:"
-abbrev pub first : List ℕ → ℕ → Decision → Decision
-first table room next =
+abbrev pub beforeSteps : List ℕ → ℕ → Decision → Decision
+beforeSteps table room next =
     unless (valid table) (silent 28)
     (unless (leb 12 room) (silent 27)
     next)
@@ -135,4 +135,4 @@ abbrev pub steps : Entry → List ℕ → Decision
 steps e m = stepOne m (stepTwo e m (stepThree e (typeOctet m) (byType e (typeOctet m) (drop 2 m))))
 
 unfoldable pub decide : List ℕ → List ℕ → ℕ → Decision
-decide table m room = first table room (steps (entryAt table (pickedEntry m)) m)
+decide table m room = beforeSteps table room (steps (entryAt table (pickedEntry m)) m)

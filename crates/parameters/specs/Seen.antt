@@ -65,14 +65,14 @@ abbrev pub withoutText : Bool → Suited
 withoutText suited = record { suited = suited; text = Ussd.Refused }
 
 -- whether a received parameter suits, and the text that was read to tell it
-abbrev pub Weighs : Bool → Bool → List ℕ → Suited → Type 0
-Weighs suited sought p r = (r .suited ≡ suited) × TextSeen sought p (r .text)
+abbrev pub TellsSuited : Bool → Bool → List ℕ → Suited → Type 0
+TellsSuited suited sought p r = (r .suited ≡ suited) × TextSeen sought p (r .text)
 
-abbrev pub WeighsText : List ℕ → Suited → Type 0
-WeighsText p r = Weighs (isUssd p) true p r
+abbrev pub TellsText : List ℕ → Suited → Type 0
+TellsText p r = TellsSuited (isUssd p) true p r
 
-abbrev pub WeighsInvoke : ℕ → List ℕ → Suited → Type 0
-WeighsInvoke operation p r = Weighs (suits InvokeReceived operation p) (eqb operation 60 || eqb operation 61) p r
+abbrev pub TellsInvoke : ℕ → List ℕ → Suited → Type 0
+TellsInvoke operation p r = TellsSuited (suits InvokeReceived operation p) (eqb operation 60 || eqb operation 61) p r
 
-abbrev pub WeighsResult : ℕ → List ℕ → Suited → Type 0
-WeighsResult operation p r = Weighs (suits ResultReceived operation p) (eqb operation 59) p r
+abbrev pub TellsResult : ℕ → List ℕ → Suited → Type 0
+TellsResult operation p r = TellsSuited (suits ResultReceived operation p) (eqb operation 59) p r

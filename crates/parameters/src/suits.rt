@@ -2,7 +2,7 @@
 use super::text::Ussd;
 ghost use mathlib.Core.Path.{_≡_};
 ghost use Rattle.parameters.specs.Suits.{noneOrOne, noneOrUssd, suits, InvokeWritten, ResultWritten};
-ghost use Rattle.parameters.specs.Seen.{withoutText, WeighsText, WeighsInvoke, WeighsResult};
+ghost use Rattle.parameters.specs.Seen.{withoutText, TellsText, TellsInvoke, TellsResult};
 
 // Whether a received parameter suits its operation, and the text that was read to tell it.
 pub struct Suited {
@@ -34,7 +34,7 @@ fn without_text(suited: bool) -> Suited
 
 // A parameter that should be a text.
 fn read_text(p: &[u8]) -> Suited
-    ensures { λ r. ⌜ WeighsText (now (p .entry)) r ⌝ }
+    ensures { λ r. ⌜ TellsText (now (p .entry)) r ⌝ }
 {
     // field by field: a whole enum would be copied through memory
     let Ussd::Says { scheme, start, end } = super::text::read_ussd(p) else {
@@ -52,7 +52,7 @@ fn read_text(p: &[u8]) -> Suited
 
 // An invoke that is received.
 pub fn suits_invoke_received(operation: u8, p: &[u8]) -> Suited
-    ensures { λ r. ⌜ WeighsInvoke operation (now (p .entry)) r ⌝ }
+    ensures { λ r. ⌜ TellsInvoke operation (now (p .entry)) r ⌝ }
 {
     if operation == 18 {
         return without_text(super::kinds::is_guidance(p));
@@ -65,7 +65,7 @@ pub fn suits_invoke_received(operation: u8, p: &[u8]) -> Suited
 
 // A result that is received; the operation is the one that waits.
 pub fn suits_result_received(operation: u8, p: &[u8]) -> Suited
-    ensures { λ r. ⌜ WeighsResult operation (now (p .entry)) r ⌝ }
+    ensures { λ r. ⌜ TellsResult operation (now (p .entry)) r ⌝ }
 {
     if operation == 17 {
         return without_text(super::kinds::is_password(p));

@@ -10,7 +10,7 @@ use lib.IntN.{ℤ}
 use lib.ListN.{length, drop, length-drop}
 use Rattle.octets.specs.Reader.{Answer, Taken}
 use Rattle.octets.proofs.ReaderLaws.{sound-inj}
-use Rattle.parameters.specs.Seen.{Weighs}
+use Rattle.parameters.specs.Seen.{TellsSuited}
 use Rattle.parameters.specs.Suits.{isUssd, suits, InvokeReceived, ResultReceived}
 use Rattle.places.specs.Places.{CalledPlaces, Coded}
 use Rattle.places.specs.Seen.{idSeen, singleSeen, SingleWithin, callsSeen, CallsWithin, lastSeen, codedSeen, CodedWithin, rejectedSeen, RejectedWithin}
@@ -115,7 +115,7 @@ kind-determined s (Kind.Fault n) (Kind.Is y) a b e = cc
 kind-determined s (Kind.Is x) (Kind.Fault m) a b e = cc
 kind-determined s (Kind.Is x) (Kind.Is y) a b e = ap Kind.Is (shows-inj (reading-determined s (Reading.Shows x) (Reading.Shows y) a b (ap shows (sound-inj e))))
 
-weighed : (suited sought : Bool) (p : List ℕ) → OneAnswer (Weighs suited sought p)
+weighed : (suited sought : Bool) (p : List ℕ) → OneAnswer (TellsSuited suited sought p)
 weighed suited sought p r q e f =
     let a = e .0 ∙ sym (f .0) in
     let b = ussd-determined p (r .text) (q .text) (e .1 .1) (f .1 .1) (e .1 .0 ∙ sym (f .1 .0)) in

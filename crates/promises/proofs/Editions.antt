@@ -4,7 +4,7 @@ use mathlib.Core.List.{[], _∷_, _++_}
 use Rattle.components.specs.LaterEdition.{inInvoke, inResult}
 use Rattle.messages.specs.LaterEdition.{nothing}
 use Rattle.promises.specs.LaterEdition.{inRegister, inFacility, inRelease}
-use Rattle.promises.specs.Editions.{appended, laterParameter, string, Instances, Editions}
+use Rattle.promises.specs.Editions.{appended, laterParameter, string120, Instances, Editions}
 use Rattle.calling.specs.Calls.{transaction as calling-transaction, fitting as calling-fitting, sendBegin as calling-begin, sendResult as calling-sendResult}
 use Rattle.codes.specs.Errors.{listed as codes-listed}
 use Rattle.components.specs.Written.{contents as components-contents, answer as components-answer}
@@ -58,8 +58,8 @@ editions = (
       },
       (
         record {
-          parameter = 0x30 ∷ 0x81 ∷ 0x80 ∷ 0x04 ∷ 0x01 ∷ 0x0F ∷ 0x04 ∷ 0x78 ∷ (string ++ appended);
-          becomes = record { contents = 0x04 ∷ 0x01 ∷ 0x0F ∷ 0x04 ∷ 0x78 ∷ string; was = record { form = 0x7D ∷ []; reads = refl; is = refl }; becomes = refl };
+          parameter = 0x30 ∷ 0x81 ∷ 0x80 ∷ 0x04 ∷ 0x01 ∷ 0x0F ∷ 0x04 ∷ 0x78 ∷ (string120 ++ appended);
+          becomes = record { contents = 0x04 ∷ 0x01 ∷ 0x0F ∷ 0x04 ∷ 0x78 ∷ string120; was = record { form = 0x7D ∷ []; reads = refl; is = refl }; becomes = refl };
           around = inRegister 0x0B (inInvoke (0x02 ∷ 0x01 ∷ 0x05 ∷ 0x02 ∷ 0x01 ∷ 0x3C ∷ []) (record { form = 0x81 ∷ 0x85 ∷ []; reads = refl; is = refl })) [];
         },
         (refl, (refl, instances)),

@@ -44,7 +44,7 @@ module _ (t m b : List ℕ) (id : ℤ) (linked : Option ℤ) (operation : ℕ) (
   unfolding fourToSix fiveAndSix stepSix
   decided s h =
       decide-further t m (length b) tests ∙ passes-on (r .type) (r .passes)
-      ∙ rw (r .taken, r .found, not-served (entryAt t (pickedEntry m)) id linked operation p s h)
+      ∙ rw (r .facilityRead, r .componentRead, not-served (entryAt t (pickedEntry m)) id linked operation p s h)
 
 pub unrecognized : Unrecognized
 unfolding receive act

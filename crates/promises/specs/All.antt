@@ -2,7 +2,7 @@
 use Rattle.promises.specs.OneVerdict.{Demand1}
 use Rattle.promises.specs.ReadBack.{Demand2}
 use Rattle.promises.specs.LaterEdition.{Demand3}
-use Rattle.promises.specs.Places.{Places}
+use Rattle.promises.specs.Parts.{PartsStand}
 use Rattle.octets.specs.OneAnswer.{Exact}
 use Rattle.promises.specs.Determined.{Determined}
 use Rattle.promises.specs.Worked.{Worked}
@@ -10,4 +10,4 @@ use Rattle.promises.specs.Editions.{Editions}
 use Rattle.promises.specs.NeverDamaged.{NeverDamaged}
 
 abbrev pub All : Type 1
-All = Demand1 × (Demand2 × (Demand3 × (Places × (Exact × (Determined × (Worked × (Editions × NeverDamaged)))))))
+All = Demand1 × (Demand2 × (Demand3 × (PartsStand × (Exact × (Determined × (Worked × (Editions × NeverDamaged)))))))

@@ -6,11 +6,11 @@ use lib.IntN.{ℤ}
 use Rattle.octets.specs.OneAnswer.{OneAnswer}
 use Rattle.octets.specs.Reader.{Answer}
 use Rattle.elements.specs.Found.{ReadsLength, ReadsElement}
-use Rattle.parameters.specs.Seen.{ReadsContents, ReadsString, ReadsUssdContents, ReadsUssd, WeighsText, WeighsInvoke, WeighsResult}
+use Rattle.parameters.specs.Seen.{ReadsContents, ReadsString, ReadsUssdContents, ReadsUssd, TellsText, TellsInvoke, TellsResult}
 use Rattle.places.specs.Seen.{ReadsSingle, ReadsCalls, ReadsLast, ReadsCoded, ReadsRejected}
 use Rattle.components.specs.Component.{Component}
 use Rattle.components.specs.Facility.{Finding}
-use Rattle.components.specs.Seen.{ReadsKind, Reads}
+use Rattle.components.specs.Seen.{ReadsKind, ReadsFinding}
 use Rattle.messages.specs.Types.{TellsType}
 use Rattle.messages.specs.Seen.{ReadsItem, ReadsSized, ReadsMandatory, ReadsRequired, FindsFirst}
 use Rattle.table.specs.Seen.{ReadsEntry, FindsClosed, NamesEntry}
@@ -30,8 +30,8 @@ Parameters =
     × (((low high : ℕ) (s : List ℕ) → OneAnswer (ReadsString low high s))
     × (((s : List ℕ) → OneAnswer (ReadsUssdContents s))
     × (((p : List ℕ) → OneAnswer (ReadsUssd p))
-    × (((p : List ℕ) → OneAnswer (WeighsText p))
-    × (((operation : ℕ) (p : List ℕ) → OneAnswer (WeighsInvoke operation p)) × ((operation : ℕ) (p : List ℕ) → OneAnswer (WeighsResult operation p)))))))
+    × (((p : List ℕ) → OneAnswer (TellsText p))
+    × (((operation : ℕ) (p : List ℕ) → OneAnswer (TellsInvoke operation p)) × ((operation : ℕ) (p : List ℕ) → OneAnswer (TellsResult operation p)))))))
 
 abbrev pub InPlaces : Type 0
 InPlaces =
@@ -42,7 +42,7 @@ InPlaces =
 
 abbrev pub Components : Type 0
 Components =
-    ((definition : Answer Component) (s : List ℕ) → OneAnswer (ReadsKind definition s)) × ((definition : Finding) (s : List ℕ) → OneAnswer (Reads definition s))
+    ((definition : Answer Component) (s : List ℕ) → OneAnswer (ReadsKind definition s)) × ((definition : Finding) (s : List ℕ) → OneAnswer (ReadsFinding definition s))
 
 abbrev pub Messages : Type 0
 Messages =

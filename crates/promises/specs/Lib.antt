@@ -2,7 +2,7 @@ pub mod OneVerdict
 pub mod ReadBack
 pub mod Unrecognized
 pub mod LaterEdition
-pub mod Places
+pub mod Parts
 pub mod Determined
 pub mod Worked
 pub mod Editions

@@ -27,13 +27,13 @@ abbrev pub ComponentReadsBack : Type 0
 ComponentReadsBack = (c : Component) → Writable c → facility (componentOctets c) ≡ shows c
 
 -- what is sent
-abbrev pub sent : Outcome → List ℕ
-sent o = take (o .written) (o .buffer)
+abbrev pub sentOctets : Outcome → List ℕ
+sentOctets o = take (o .written) (o .buffer)
 
 -- what is sent has this first octet and type, and behind them 01's layout with the Facility value of c, which shows c
 pub record Carries (first type : ℕ) (o : Outcome) (c : Component) : Type 0 where
   pub body : List ℕ
-  pub front : sent o ≡ first ∷ type ∷ body
+  pub front : sentOctets o ≡ first ∷ type ∷ body
   pub behind : List ℕ
   pub found : required type body ≡ took (componentOctets c) behind
   pub back : facility (componentOctets c) ≡ shows c
@@ -56,7 +56,7 @@ pub record CarriesReject (first : ℕ) (o : Outcome) : Type 0 where
   pub tag : ℕ
   pub number : ℕ
   pub body : List ℕ
-  pub front : sent o ≡ first ∷ releaseType ∷ body
+  pub front : sentOctets o ≡ first ∷ releaseType ∷ body
   pub found : firstWhole 0x1C body ≡ some (componentOctets (reject id tag number))
   pub back : facility (componentOctets (reject id tag number)) ≡ shows (reject id tag number)
 

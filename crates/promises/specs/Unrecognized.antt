@@ -41,9 +41,9 @@ pub record ReachesStepSix (t m b : List ℕ) (id : ℤ) (linked : Option ℤ) (o
   -- 4.
   pub facilityValue : List ℕ
   pub behind : List ℕ
-  pub taken : required type (drop 2 m) ≡ took facilityValue behind
+  pub facilityRead : required type (drop 2 m) ≡ took facilityValue behind
   -- 5.
-  pub found : facility facilityValue ≡ shows (invoke id linked operation p)
+  pub componentRead : facility facilityValue ≡ shows (invoke id linked operation p)
 
 -- a release with a Reject of its id with invoke problem 1
 abbrev pub rejection : List ℕ → ℤ → List ℕ

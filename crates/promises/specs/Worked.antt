@@ -13,7 +13,7 @@ use Rattle.telephone.specs.Calls.{begin, result}
 use Rattle.telephone.specs.FromC.{receivedOf}
 use Rattle.telephone.specs.Stands.{textShown}
 use Rattle.telephone.specs.declared.receive.Received.{Received}
-use Rattle.promises.specs.ReadBack.{sent}
+use Rattle.promises.specs.ReadBack.{sentOctets}
 
 abbrev pub zeros : ℕ → List ℕ
 zeros n = replicate n 0
@@ -28,19 +28,19 @@ afterW1 = zeros 35 ++ (0x05 ∷ 0x00 ∷ 0x00 ∷ 0x05 ∷ 0x3C ∷ []) ++ zeros
 abbrev pub buffer : List ℕ
 buffer = zeros 24
 
-abbrev pub parameter : List ℕ
-parameter = 0x30 ∷ 0x06 ∷ 0x04 ∷ 0x01 ∷ 0x0F ∷ 0x04 ∷ 0x01 ∷ 0x41 ∷ []
+abbrev pub w1Parameter : List ℕ
+w1Parameter = 0x30 ∷ 0x06 ∷ 0x04 ∷ 0x01 ∷ 0x0F ∷ 0x04 ∷ 0x01 ∷ 0x41 ∷ []
 
 abbrev pub w1 : List ℕ
-w1 = 0x0B ∷ 0x3B ∷ 0x1C ∷ 0x10 ∷ 0xA1 ∷ 0x0E ∷ 0x02 ∷ 0x01 ∷ 0x05 ∷ 0x02 ∷ 0x01 ∷ 0x3C ∷ parameter
+w1 = 0x0B ∷ 0x3B ∷ 0x1C ∷ 0x10 ∷ 0xA1 ∷ 0x0E ∷ 0x02 ∷ 0x01 ∷ 0x05 ∷ 0x02 ∷ 0x01 ∷ 0x3C ∷ w1Parameter
 
 -- "Verdict 0, id 5, string 41, tail empty."
 abbrev pub W1 : Outcome → Type 0
 W1 o =
     (o .code ≡ 0)
-    × ((o .shown ≡ some (record { component = invoke (pos 5) none 60 parameter; behind = [] }))
+    × ((o .shown ≡ some (record { component = invoke (pos 5) none 60 w1Parameter; behind = [] }))
     × ((textShown (o .shown) ≡ some (record { value = record { scheme = 0x0F; string = 0x41 ∷ [] }; rest = [] }))
-    × ((sent o ≡ []) × (o .table ≡ afterW1))))
+    × ((sentOctets o ≡ []) × (o .table ≡ afterW1))))
 
 -- and as C sees it: the parameter from octet 12 on, the string at 19, the tail empty at the end
 abbrev pub w1Received : Received
@@ -75,15 +75,15 @@ W2 o =
     (o .code ≡ 0)
     × ((o .shown ≡ some (record { component = invoke (pos 5) none 60 (drop 12 w2); behind = [] }))
     × ((textShown (o .shown) ≡ some (record { value = record { scheme = 0x0F; string = 0x41 ∷ [] }; rest = 0x04 ∷ 0x01 ∷ 0x02 ∷ [] }))
-    × ((sent o ≡ []) × (o .table ≡ afterW1))))
+    × ((sentOctets o ≡ []) × (o .table ≡ afterW1))))
 
 -- the verdict, and what is sent
 abbrev pub Answers : ℕ → List ℕ → Outcome → Type 0
-Answers code octets o = (o .code ≡ code) × (sent o ≡ octets)
+Answers code octets o = (o .code ≡ code) × (sentOctets o ≡ octets)
 
 -- "after W1, 0B 3A and W1 from its length 10 on: verdict 3"
 abbrev pub w3 : List ℕ
-w3 = 0x0B ∷ 0x3A ∷ 0x10 ∷ 0xA1 ∷ 0x0E ∷ 0x02 ∷ 0x01 ∷ 0x05 ∷ 0x02 ∷ 0x01 ∷ 0x3C ∷ parameter
+w3 = 0x0B ∷ 0x3A ∷ 0x10 ∷ 0xA1 ∷ 0x0E ∷ 0x02 ∷ 0x01 ∷ 0x05 ∷ 0x02 ∷ 0x01 ∷ 0x3C ∷ w1Parameter
 
 abbrev pub Worked : Type 0
 Worked =
@@ -99,6 +99,6 @@ Worked =
     -- W8, "fresh, 7B 3B: verdict 1"
     × (Answers 1 [] (receive fresh (0x7B ∷ 0x3B ∷ []) buffer)
     -- W9, "begin 59, id 1, parameter as in W1, fresh"
-    × (Answers 0 (0x0B ∷ 0x3B ∷ 0x1C ∷ 0x10 ∷ 0xA1 ∷ 0x0E ∷ 0x02 ∷ 0x01 ∷ 0x01 ∷ 0x02 ∷ 0x01 ∷ 0x3B ∷ 0x30 ∷ 0x06 ∷ 0x04 ∷ 0x01 ∷ 0x0F ∷ 0x04 ∷ 0x01 ∷ 0x41 ∷ 0x7F ∷ 0x01 ∷ 0x00 ∷ []) (begin fresh buffer 59 (pos 1) parameter)
+    × (Answers 0 (0x0B ∷ 0x3B ∷ 0x1C ∷ 0x10 ∷ 0xA1 ∷ 0x0E ∷ 0x02 ∷ 0x01 ∷ 0x01 ∷ 0x02 ∷ 0x01 ∷ 0x3B ∷ 0x30 ∷ 0x06 ∷ 0x04 ∷ 0x01 ∷ 0x0F ∷ 0x04 ∷ 0x01 ∷ 0x41 ∷ 0x7F ∷ 0x01 ∷ 0x00 ∷ []) (begin fresh buffer 59 (pos 1) w1Parameter)
     -- W10, "the empty message: verdict 1"
     × Answers 1 [] (receive fresh [] buffer)))))))))

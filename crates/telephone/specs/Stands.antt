@@ -62,5 +62,5 @@ IsShownParameter m received octets =
     × ((table buffer : List ℕ) → received ≡ receivedOf (length m) (receive table m buffer) → octets ≡ parameterShown (receive table m buffer .shown))
 
 -- and the place of its first octet
-abbrev pub parameterStart : List ℕ → Received → ℕ
-parameterStart m received = startOf (received .shown .parameter .start) (received .shown .parameter .end) m
+abbrev pub shownStart : List ℕ → Received → ℕ
+shownStart m received = startOf (received .shown .parameter .start) (received .shown .parameter .end) m

@@ -17,7 +17,7 @@ ghost use Rattle.octets.specs.Seen.{partFound, PartWithin};
 ghost use Rattle.table.specs.Table.{size, closed, withEntry};
 ghost use Rattle.deciding.specs.Seen.{toldSeen, ToldWithin, decisionSeen, DecisionWithin, isSilent, Ready};
 ghost use Rattle.telephone.specs.Receive.{act, receive};
-ghost use Rattle.telephone.specs.Stands.{IsShownParameter, parameterStart};
+ghost use Rattle.telephone.specs.Stands.{IsShownParameter, shownStart};
 ghost use Rattle.telephone.specs.FromC.{shownAs, receivedOf, withoutCause, ActedAs};
 
 // The verdict, or the refusal 27 or 28; how many octets of the reply are written; and what is shown.
@@ -150,7 +150,7 @@ pub extern "C" fn smr_receive(table: &mut [u8], message: &[u8], reply: &mut [u8]
 // The parameter of the component that a message shows, as a part of the caller's own message.
 pub fn shown_parameter(message: &[u8], received: Received) -> &[u8]
     ensures octets { λ r. ⌜ IsShownParameter (now (message .entry)) received (now r) ⌝ }
-    ensures place { λ r. ⌜ r .ptr ≡ placeAt (parameterStart (now (message .entry)) received) (message .entry .ptr) ⌝ }
+    ensures place { λ r. ⌜ r .ptr ≡ placeAt (shownStart (now (message .entry)) received) (message .entry .ptr) ⌝ }
 {
     let shown = received.shown;
     let parameter = shown.parameter;

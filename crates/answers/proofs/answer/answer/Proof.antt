@@ -7,7 +7,7 @@ use lib.ListN.{length}
 use Rattle.printing.specs.Lines.{numberLine}
 use Rattle.printing.proofs.JoinLaws.{splice-nil}
 use Rattle.reports.specs.Words.{bufferWord}
-use Rattle.answers.specs.Answers.{stateOf}
+use Rattle.answers.specs.Answers.{benchState}
 use Rattle.answers.proofs.PageLaws.{two}
 use Rattle.answers.proofs.AnswerLaws.{stays, same, asked-nothing, asked-unclear, asked-room, asked-image, asked-call}
 use Rattle.answers.proofs.RoomLaws.{in-room, room-most}
@@ -34,7 +34,7 @@ enum-told c = search needs
 returns : tie.Need-returns
 returns c =
     let a = c .before .before .before .before .before .before .before .args in
-    let e = asked-nothing (a .number) (a .line .now) (stateOf (a .space .now) (a .held)) _ (c .before .before .before .command .ensures) (sym (c .enum-told .given .1) ∙ c .before .before .asks-of .ensures) in
+    let e = asked-nothing (a .number) (a .line .now) (benchState (a .space .now) (a .held)) _ (c .before .before .before .command .ensures) (sym (c .enum-told .given .1) ∙ c .before .before .asks-of .ensures) in
     stays _ (a .space .now) (a .page .now) (a .page .now) [] (a .held .size) _ (a .held .room) 0 e (omega arith) (omega arith) (omega arith) refl (sym (splice-nil (a .page .now) 0), refl) (omega arith)
 
 enum-told-2 : tie.Need-enum-told-2
@@ -50,7 +50,7 @@ returns-2 : tie.Need-returns-2
 returns-2 c =
     let a = c .before .before .before .before .before .before .before .before .before .before .before .args in
     let u = c .before .before .not-understood .ensures in
-    let e = asked-unclear (a .number) (a .line .now) (stateOf (a .space .now) (a .held)) _ (c .before .before .before .before .before .before .before .command .ensures) (sym (c .before .before .before .before .enum-told2 .given .1) ∙ c .before .before .before .before .before .before .asks-of .ensures) in
+    let e = asked-unclear (a .number) (a .line .now) (benchState (a .space .now) (a .held)) _ (c .before .before .before .before .before .before .before .command .ensures) (sym (c .before .before .before .before .enum-told2 .given .1) ∙ c .before .before .before .before .before .before .asks-of .ensures) in
     stays _ (a .space .now) _ _ _ _ _ (a .held .room) _ e (omega arith) (omega arith) (omega arith) refl (u .0, u .1 .0) (omega arith)
 
 enum-known-asks : tie.Need-enum-known-asks
@@ -77,7 +77,7 @@ returns-3 c =
     let n = c .before .before .before .before .before .before .before .before .before .before .before .asks .given .0 .0 in
     let q = sym (c .before .before .before .before .before .before .before .before .before .before .before .asks .given .1) ∙ c .before .before .before .before .before .before .before .before .before .before .before .before .before .asks-of .ensures in
     let m : n ≤ 300 = room-most (length (a .line .now)) n (c .before .before .before .before .before .before .before .before .before .before .before .before .before .before .command .result) (rw (c .before .before .before .before .before .before .before .before .before .before .before .before .before .before .command .ensures) (in-room (a .line .now))) q in
-    let e = asked-room (a .number) (a .line .now) (stateOf (a .space .now) (a .held)) _ (c .before .before .before .before .before .before .before .before .before .before .before .before .before .before .command .ensures) n q in
+    let e = asked-room (a .number) (a .line .now) (benchState (a .space .now) (a .held)) _ (c .before .before .before .before .before .before .before .before .before .before .before .before .before .before .command .ensures) n q in
     let o = c .before .before .before .before .before .before .before .number-line .ensures in
     let w = two (a .page .now) (numberLine bufferWord n) (10 ∷ []) _ _ _ _ (omega arith) (o .0, o .1 .0) (c .before .before .put-words .ensures) in
     stays _ (a .space .now) _ _ _ (a .held .size) _ n _ e (omega arith) (omega arith) m refl w (omega arith)
@@ -97,7 +97,7 @@ same-length-4 c = search needs
 returns-4 : tie.Need-returns-4
 returns-4 c =
     let a = c .before .before .before .before .before .before .before .before .before .before .before .before .before .before .before .args in
-    let e = asked-image (a .number) (a .line .now) (stateOf (a .space .now) (a .held)) _ (c .before .before .before .before .before .before .before .before .before .before .before .command .ensures) _ (sym (c .before .before .before .before .before .before .before .before .asks2 .given .1) ∙ c .before .before .before .before .before .before .before .before .before .before .asks-of .ensures) in
+    let e = asked-image (a .number) (a .line .now) (benchState (a .space .now) (a .held)) _ (c .before .before .before .before .before .before .before .before .before .before .before .command .ensures) _ (sym (c .before .before .before .before .before .before .before .before .asks2 .given .1) ∙ c .before .before .before .before .before .before .before .before .before .before .asks-of .ensures) in
     same _ _ (a .space .now) _ (a .page .now) _ _ e (c .before .before .before .before .on-octets .ensures)
 
 enum-known-asks-3 : tie.Need-enum-known-asks-3
@@ -115,7 +115,7 @@ same-length-6 c = search needs
 returns-5 : tie.Need-returns-5
 returns-5 c =
     let a = c .before .before .before .before .before .before .before .before .before .before .before .before .before .before .before .args in
-    let e = asked-call (a .number) (a .line .now) (stateOf (a .space .now) (a .held)) _ (c .before .before .before .before .before .before .before .before .before .before .before .command .ensures) _ (sym (c .before .before .before .before .before .before .before .before .asks3 .given .1) ∙ c .before .before .before .before .before .before .before .before .before .before .asks-of .ensures) in
+    let e = asked-call (a .number) (a .line .now) (benchState (a .space .now) (a .held)) _ (c .before .before .before .before .before .before .before .before .before .before .before .command .ensures) _ (sym (c .before .before .before .before .before .before .before .before .asks3 .given .1) ∙ c .before .before .before .before .before .before .before .before .before .before .asks-of .ensures) in
     same _ _ (a .space .now) _ (a .page .now) _ _ e (c .before .before .before .before .on-octets2 .ensures)
 
 pub answer-spec : {M : Type 1} → statement M

@@ -2,7 +2,7 @@ use borrow.Author.Needs.{needs}
 use mathlib.Core.Path.{refl, sym}
 use native.Mathlib.Omega.{arith}
 use lib.Seq.{length-take-le}
-use Rattle.answers.specs.Answers.{stateOf}
+use Rattle.answers.specs.Answers.{benchState}
 use Rattle.answers.proofs.AnswerLaws.{stays, same, line-long, line-whole}
 use Rattle.answers.proofs.answer.answer_line.Statement.{statement}
 use Rattle.answers.proofs.answer.answer_line.Tie as tie
@@ -21,7 +21,7 @@ returns : tie.Need-returns
 returns c =
     let a = c .before .before .before .before .before .before .before .before .args in
     let u = c .before .before .too-long .ensures in
-    let e = line-long (a .number) (a .line .now) (stateOf (a .space .now) (a .held)) (a .have) (c .before .before .before .before .if1 .taken) in
+    let e = line-long (a .number) (a .line .now) (benchState (a .space .now) (a .held)) (a .have) (c .before .before .before .before .if1 .taken) in
     stays _ (a .space .now) _ _ _ _ _ (a .held .room) _ e (omega arith) (omega arith) (omega arith) refl (u .0, u .1 .0) (omega arith)
 
 slice-aggregate-answer : tie.Need-slice-aggregate-answer
@@ -39,7 +39,7 @@ same-length-3 c = search needs
 returns-2 : tie.Need-returns-2
 returns-2 c =
     let a = c .before .before .before .before .before .before .before .before .before .before .before .before .args in
-    let e = line-whole (a .number) (a .line .now) (stateOf (a .space .now) (a .held)) (a .have) (omega arith) in
+    let e = line-whole (a .number) (a .line .now) (benchState (a .space .now) (a .held)) (a .have) (omega arith) in
     same _ _ (a .space .now) _ (a .page .now) _ _ e (c .before .before .before .before .answer .ensures)
 
 pub answer-line-spec : {M : Type 1} → statement M

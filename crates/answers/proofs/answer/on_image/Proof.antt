@@ -6,7 +6,7 @@ use lib.ListN.{take}
 use lib.Seq.{length-take-le}
 use Rattle.printing.specs.Lines.{octetsLine}
 use Rattle.reports.specs.Words.{tableWord, tableSet}
-use Rattle.answers.specs.Answers.{notUnderstood, says, image, stateOf}
+use Rattle.answers.specs.Answers.{notUnderstood, says, image, benchState}
 use Rattle.answers.proofs.PageLaws.{two}
 use Rattle.answers.proofs.AnswerLaws.{stays, sets, image-shown, image-set, image-long}
 use Rattle.answers.proofs.answer.on_image.Statement.{statement}
@@ -52,7 +52,7 @@ returns c =
     let n = length-take-le (a .held .size) (a .space .now) (omega arith) in
     let o = c .before .before .before .before .before .before .before .octets-line .ensures in
     let w = two (a .page .now) (octetsLine tableWord (take (a .held .size) (a .space .now))) (10 ∷ []) _ _ _ _ (omega (arith, n)) (o .0, o .1 .0) (c .before .before .put-words .ensures) in
-    let s = stateOf (a .space .now) (a .held) in
+    let s = benchState (a .space .now) (a .held) in
     let e : image (a .number) s (a .octets .now) ≡ says _ s = image-shown (a .number) s (a .octets .now) (c .before .before .before .before .before .before .before .before .before .before .before .if1 .taken) in
     stays _ (a .space .now) _ _ _ _ _ (a .held .room) _ e (omega arith) (omega arith) (omega arith) refl w (omega (arith, n))
 
@@ -74,7 +74,7 @@ same-length-4 c = search needs
 returns-2 : tie.Need-returns-2
 returns-2 c =
     let a = c .before .before .before .before .before .before .before .before .before .before .before .before .before .before .args in
-    let s = stateOf (a .space .now) (a .held) in
+    let s = benchState (a .space .now) (a .held) in
     let e : image (a .number) s (a .octets .now) ≡ says tableSet _ = image-set (a .number) s (a .octets .now) (c .before .before .before .before .before .before .before .before .before .before .if1 .left) (c .before .before .before .before .before .before .before .before .before .if2 .taken) in
     sets _ (a .space .now) _ _ _ tableSet (a .octets .now) (a .held .room) _ e (c .before .before .before .before .before .before .before .before .before .if2 .taken) (omega arith) (c .before .before .before .before .before .before .before .put .ensures) (c .before .before .put-words2 .ensures) (omega arith)
 
@@ -87,7 +87,7 @@ same-length-5 c = search needs
 returns-3 : tie.Need-returns-3
 returns-3 c =
     let a = c .before .before .before .before .before .before .before .before .before .args in
-    let s = stateOf (a .space .now) (a .held) in
+    let s = benchState (a .space .now) (a .held) in
     let u = c .before .before .not-understood .ensures in
     let e : image (a .number) s (a .octets .now) ≡ says (notUnderstood (a .number)) s = image-long (a .number) s (a .octets .now) (omega arith) in
     stays _ (a .space .now) _ _ _ _ _ (a .held .room) _ e (omega arith) (omega arith) (omega arith) refl (u .0, u .1 .0) (omega arith)

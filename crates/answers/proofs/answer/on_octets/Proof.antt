@@ -5,7 +5,7 @@ use native.Mathlib.Omega.{arith}
 use lib.ListN.{length}
 use lib.Seq.{length-take-le}
 use Rattle.words.specs.Hex.{Octets}
-use Rattle.answers.specs.Answers.{stateOf}
+use Rattle.answers.specs.Answers.{benchState}
 use Rattle.answers.proofs.AnswerLaws.{stays, octets-wrong, octets-long, octets-image, octets-call, by-call, read-is, row-is, same}
 use Rattle.answers.proofs.answer.on_octets.Statement.{statement}
 use Rattle.answers.proofs.answer.on_octets.Tie as tie
@@ -41,7 +41,7 @@ returns c =
     let a = c .before .before .before .before .before .before .before .before .before .before .before .before .before .args in
     let u = c .before .before .not-understood .ensures in
     let e = ap (λ (o : Octets). o .ends) (read-is (a .line .now) (a .at) _ (c .before .before .before .before .before .before .before .before .before .part .ensures .0)) ∙ sym (c .before .before .before .before .before .before .before .read-hex .ensures .1 .0) ∙ c .before .before .before .before .enum-told .given .1 in
-    stays _ (a .space .now) _ _ _ _ _ (a .held .room) _ (octets-wrong (a .number) (a .line .now) (a .at) (a .command) (stateOf (a .space .now) (a .held)) (a .is-image) e) (omega arith) (omega arith) (omega arith) refl (u .0, u .1 .0) (omega arith)
+    stays _ (a .space .now) _ _ _ _ _ (a .held .room) _ (octets-wrong (a .number) (a .line .now) (a .at) (a .command) (benchState (a .space .now) (a .held)) (a .is-image) e) (omega arith) (omega arith) (omega arith) refl (u .0, u .1 .0) (omega arith)
 
 enum-told-2 : tie.Need-enum-told-2
 enum-told-2 c = search needs
@@ -57,7 +57,7 @@ returns-2 c =
     let a = c .before .before .before .before .before .before .before .before .before .before .before .before .before .args in
     let u = c .before .before .too-long .ensures in
     let e = ap (λ (o : Octets). o .ends) (read-is (a .line .now) (a .at) _ (c .before .before .before .before .before .before .before .before .before .part .ensures .0)) ∙ sym (c .before .before .before .before .before .before .before .read-hex .ensures .1 .0) ∙ c .before .before .before .before .enum-told2 .given .1 in
-    stays _ (a .space .now) _ _ _ _ _ (a .held .room) _ (octets-long (a .number) (a .line .now) (a .at) (a .command) (stateOf (a .space .now) (a .held)) (a .is-image) e) (omega arith) (omega arith) (omega arith) refl (u .0, u .1 .0) (omega arith)
+    stays _ (a .space .now) _ _ _ _ _ (a .held .room) _ (octets-long (a .number) (a .line .now) (a .at) (a .command) (benchState (a .space .now) (a .held)) (a .is-image) e) (omega arith) (omega arith) (omega arith) refl (u .0, u .1 .0) (omega arith)
 
 enum-told-3 : tie.Need-enum-told-3
 enum-told-3 c = search needs
@@ -84,7 +84,7 @@ returns-3 : tie.Need-returns-3
 returns-3 c =
     let a = c .before .before .before .before .before .before .before .before .before .before .before .before .before .before .before .before .before .before .args in
     let x = c .before .before .before .before .before .before .before .before .before .before .before .before .read-hex .ensures in
-    let s = stateOf (a .space .now) (a .held) in
+    let s = benchState (a .space .now) (a .held) in
     let r = read-is (a .line .now) (a .at) _ (c .before .before .before .before .before .before .before .before .before .before .before .before .before .before .part .ensures .0) in
     let e = ap (λ (o : Octets). o .ends) r ∙ sym (x .1 .0) ∙ c .before .before .before .before .before .before .before .before .before .enum-told3 .given .1 in
     let f = ap (λ (o : Octets). o .octets) r ∙ row-is _ _ _ _ (x .0) (x .1 .1 .0) in
@@ -116,7 +116,7 @@ returns-4 : tie.Need-returns-4
 returns-4 c =
     let a = c .before .before .before .before .before .before .before .before .before .before .before .before .before .before .before .before .before .before .args in
     let x = c .before .before .before .before .before .before .before .before .before .before .before .before .read-hex .ensures in
-    let s = stateOf (a .space .now) (a .held) in
+    let s = benchState (a .space .now) (a .held) in
     let r = read-is (a .line .now) (a .at) _ (c .before .before .before .before .before .before .before .before .before .before .before .before .before .before .part .ensures .0) in
     let e = ap (λ (o : Octets). o .ends) r ∙ sym (x .1 .0) ∙ c .before .before .before .before .before .before .before .before .before .enum-told3 .given .1 in
     let f = ap (λ (o : Octets). o .octets) r ∙ row-is _ _ _ _ (x .0) (x .1 .1 .0) in

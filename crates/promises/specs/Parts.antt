@@ -7,5 +7,5 @@ use Rattle.telephone.specs.Receive.{receive}
 use Rattle.telephone.specs.FromC.{receivedOf}
 use Rattle.telephone.specs.Stands.{Stands}
 
-abbrev pub Places : Type 0
-Places = (t m b : List ℕ) → Stands m (receive t m b) (receivedOf (length m) (receive t m b))
+abbrev pub PartsStand : Type 0
+PartsStand = (t m b : List ℕ) → Stands m (receive t m b) (receivedOf (length m) (receive t m b))
