@@ -18,7 +18,7 @@ use Rattle.telephone.specs.FromC.{receivedOf, calledOf}
 use Rattle.telephone.specs.declared.receive.Received.{Received}
 use Rattle.telephone.specs.declared.calls.Called.{Called}
 use Rattle.reports.specs.Shown.{receivedText, calledText}
-use Rattle.answers.specs.Answers.{Made, received, called, idle, made, Makes}
+use Rattle.answers.specs.Answers.{Made, received, madeCall, idle, made, Makes}
 
 -- an id that the code hands on comes back as itself
 module _ (t b p : List ℕ) where
@@ -26,23 +26,23 @@ module _ (t b p : List ℕ) where
   unfolding made
   receive-made at = refl
 
-  pub begin-made : (operation : ℕ) (id : ℤ) (at : ℕ) → IsId id → made t b p (Begin operation id at) ≡ called true (begin t b operation (asHeld id) p)
+  pub begin-made : (operation : ℕ) (id : ℤ) (at : ℕ) → IsId id → made t b p (Begin operation id at) ≡ madeCall true (begin t b operation (asHeld id) p)
   unfolding made
-  begin-made operation id at h = ap (λ (z : ℤ). called true (begin t b operation z p)) (sym (held-is h))
+  begin-made operation id at h = ap (λ (z : ℤ). madeCall true (begin t b operation z p)) (sym (held-is h))
 
-  pub invoke-made : (flag value operation : ℕ) (id : ℤ) (at : ℕ) → IsId id → made t b p (Invoke flag value operation id at) ≡ called false (invokeWithin t b flag value operation (asHeld id) p)
+  pub invoke-made : (flag value operation : ℕ) (id : ℤ) (at : ℕ) → IsId id → made t b p (Invoke flag value operation id at) ≡ madeCall false (invokeWithin t b flag value operation (asHeld id) p)
   unfolding made
-  invoke-made flag value operation id at h = ap (λ (z : ℤ). called false (invokeWithin t b flag value operation z p)) (sym (held-is h))
+  invoke-made flag value operation id at h = ap (λ (z : ℤ). madeCall false (invokeWithin t b flag value operation z p)) (sym (held-is h))
 
-  pub result-made : (flag value : ℕ) (id : ℤ) (at : ℕ) → IsId id → made t b p (Result flag value id at) ≡ called false (result t b flag value (asHeld id) p)
+  pub result-made : (flag value : ℕ) (id : ℤ) (at : ℕ) → IsId id → made t b p (Result flag value id at) ≡ madeCall false (result t b flag value (asHeld id) p)
   unfolding made
-  result-made flag value id at h = ap (λ (z : ℤ). called false (result t b flag value z p)) (sym (held-is h))
+  result-made flag value id at h = ap (λ (z : ℤ). madeCall false (result t b flag value z p)) (sym (held-is h))
 
-  pub error-made : (flag value : ℕ) (id : ℤ) (code at : ℕ) → IsId id → made t b p (Error flag value id code at) ≡ called false (error t b flag value (asHeld id) code p)
+  pub error-made : (flag value : ℕ) (id : ℤ) (code at : ℕ) → IsId id → made t b p (Error flag value id code at) ≡ madeCall false (error t b flag value (asHeld id) code p)
   unfolding made
-  error-made flag value id code at h = ap (λ (z : ℤ). called false (error t b flag value z code p)) (sym (held-is h))
+  error-made flag value id code at h = ap (λ (z : ℤ). madeCall false (error t b flag value z code p)) (sym (held-is h))
 
-  pub release-made : (flag value : ℕ) → made t b p (Release flag value) ≡ called false (release t b flag value)
+  pub release-made : (flag value : ℕ) → made t b p (Release flag value) ≡ madeCall false (release t b flag value)
   unfolding made
   release-made flag value = refl
 
@@ -59,7 +59,7 @@ module _ (t b p : List ℕ) where
   buffer-made n = refl
 
 module _ (m : Made) (page table buffer after : List ℕ) (r : ℕ) (o : Outcome) where
-  pub makes-call : (begins : Bool) (k : Called) → m ≡ called begins o → (k ≡ calledOf o) × ((buffer ≡ o .buffer) × (table ≡ o .table))
+  pub makes-call : (begins : Bool) (k : Called) → m ≡ madeCall begins o → (k ≡ calledOf o) × ((buffer ≡ o .buffer) × (table ≡ o .table))
       → Filled 70000 page (calledText begins buffer k) after r
       → Makes m table page after r
   makes-call begins k e s w =

@@ -21,7 +21,7 @@ use Rattle.reports.proofs.FortyLaws.{received-forty, called-forty}
 use Rattle.answers.specs.Lines.{longest}
 use Rattle.answers.specs.declared.answer.Asks.{Asks}
 use Rattle.answers.specs.declared.answer.Asks.the-variants.{Passed, Unclear, Room, Image, Call}
-use Rattle.answers.specs.Answers.{State, Said, says, notUnderstood, tooLong, made, image, asksOf, ended, octetsAt, onOctets, byAsks, answer, answerLine}
+use Rattle.answers.specs.Answers.{State, Said, says, notUnderstood, tooLong, made, image, asksOf, unlessWhole, octetsAt, onOctets, byAsks, answer, answerLine}
 
 nothing : forty [] ≡ true
 unfolding forty fortyFrom
@@ -75,7 +75,7 @@ module _ (n : ℕ) (s : State) where
       go false true = set-forty
       go false false = understood-forty n
 
-  ended-forty : (e : Ending) (said : Said) → forty (said .text) ≡ true → forty (ended n s e said .text) ≡ true
+  ended-forty : (e : Ending) (said : Said) → forty (said .text) ≡ true → forty (unlessWhole n s e said .text) ≡ true
   ended-forty Whole said h = h
   ended-forty Wrong said h = understood-forty n
   ended-forty Long said h = long-forty n

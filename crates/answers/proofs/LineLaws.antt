@@ -11,7 +11,7 @@ use lib.Dec.{eqb, ltb}
 use borrow.Author.Tests.{eq-eqb, ne-eqb, lt-ltb, le-ltb, ltb-true}
 use Rattle.octets.specs.Part.{between}
 use Rattle.octets.specs.Splice.{splice}
-use Rattle.answers.specs.Lines.{lineEnd, piece, held, kept, gathered}
+use Rattle.answers.specs.Lines.{lineEnd, piece, held, withPiece, gathered}
 
 pub line-here : (s : List ℕ) (i : ℕ) → i < length s → getD s i 0 ≡ 10 → i + lineEnd (drop i s) ≡ i
 unfolding lineEnd
@@ -77,13 +77,13 @@ module _ (s line more : List ℕ) (from have end next : ℕ) (h : from ≤ lengt
 
   -- the line is too long by now
   pub gather-long : 16384 < have + length more
-      → (record { next = next; have = 16385; «is_whole» = ltb end (length s) } ≡ gathered s from have) × ((line ≡ kept line have (piece s from)) × ((next ≤ length s) × (16385 ≤ 16385)))
+      → (record { next = next; have = 16385; «is_whole» = ltb end (length s) } ≡ gathered s from have) × ((line ≡ withPiece line have (piece s from)) × ((next ≤ length s) × (16385 ≤ 16385)))
   gather-long l =
       let t : ltb 16384 (have + length (piece s from)) ≡ true = lt-ltb 16384 (have + length (piece s from)) (rw (← more-is) l) in
       (gathered-is 16385 (rw t), (rw t, (next-within, omega arith)))
 
   pub gather-on : (after : List ℕ) → have + length more ≤ 16384 → after ≡ splice line have more
-      → (record { next = next; have = have + length more; «is_whole» = ltb end (length s) } ≡ gathered s from have) × ((after ≡ kept line have (piece s from)) × ((next ≤ length s) × (have + length more ≤ 16385)))
+      → (record { next = next; have = have + length more; «is_whole» = ltb end (length s) } ≡ gathered s from have) × ((after ≡ withPiece line have (piece s from)) × ((next ≤ length s) × (have + length more ≤ 16385)))
   gather-on after l a =
       let t : ltb 16384 (have + length (piece s from)) ≡ false = le-ltb 16384 (have + length (piece s from)) (rw (← more-is) l) in
       (gathered-is (have + length more) (rw (t, more-is)), (rw t (a ∙ ap (λ (x : List ℕ). splice line have x) more-is), (next-within, omega arith)))

@@ -10,7 +10,7 @@ use Rattle.octets.specs.Splice.{splice}
 use Rattle.printing.specs.Page.{Filled}
 use Rattle.printing.specs.Numbers.{decimal}
 use Rattle.printing.specs.Lines.{octetsLine, numberLine}
-use Rattle.words.specs.Hex.{Octets, hex}
+use Rattle.words.specs.Hex.{HexOctets, hex}
 use Rattle.words.specs.Commands as commands
 use Rattle.words.specs.declared.Ending.{Ending}
 use Rattle.words.specs.declared.Ending.the-variants.{Whole, Wrong, Long}
@@ -58,8 +58,8 @@ pub record Made : Type 0 where
 abbrev pub received : List ℕ → Outcome → Made
 received m o = record { text = receivedText m (o .buffer) (receivedOf (length m) o); table = o .table }
 
-abbrev pub called : Bool → Outcome → Made
-called begins o = record { text = calledText begins (o .buffer) (calledOf o); table = o .table }
+abbrev pub madeCall : Bool → Outcome → Made
+madeCall begins o = record { text = calledText begins (o .buffer) (calledOf o); table = o .table }
 
 abbrev pub idle : List ℕ → Made
 idle t = record { text = []; table = t }
@@ -67,11 +67,11 @@ idle t = record { text = []; table = t }
 -- with the octets of the line; the other commands make no call
 unfoldable pub made : List ℕ → List ℕ → List ℕ → Command → Made
 made t buffer p (Receive at) = received p (receive t p buffer)
-made t buffer p (Begin operation id at) = called true (begin t buffer operation id p)
-made t buffer p (Invoke flag value operation id at) = called false (invokeWithin t buffer flag value operation id p)
-made t buffer p (Result flag value id at) = called false (result t buffer flag value id p)
-made t buffer p (Error flag value id code at) = called false (error t buffer flag value id code p)
-made t buffer p (Release flag value) = called false (release t buffer flag value)
+made t buffer p (Begin operation id at) = madeCall true (begin t buffer operation id p)
+made t buffer p (Invoke flag value operation id at) = madeCall false (invokeWithin t buffer flag value operation id p)
+made t buffer p (Result flag value id at) = madeCall false (result t buffer flag value id p)
+made t buffer p (Error flag value id code at) = madeCall false (error t buffer flag value id code p)
+made t buffer p (Release flag value) = madeCall false (release t buffer flag value)
 made t buffer p Nothing = idle t
 made t buffer p Unknown = idle t
 made t buffer p (Table at) = idle t
@@ -101,18 +101,18 @@ asksOf end (Error flag value id code at) = Call at
 asksOf end (Release flag value) = Call end
 
 -- "octets over 4,096 in a line likewise, `line N too long`"
-abbrev pub ended : ℕ → State → Ending → Said → Said
-ended n s Whole said = said
-ended n s Wrong said = says (notUnderstood n) s
-ended n s Long said = says (tooLong n) s
+abbrev pub unlessWhole : ℕ → State → Ending → Said → Said
+unlessWhole n s Whole said = said
+unlessWhole n s Wrong said = says (notUnderstood n) s
+unlessWhole n s Long said = says (tooLong n) s
 
 -- the octets of a line, from a place up to its end
-abbrev pub octetsAt : List ℕ → ℕ → Octets
+abbrev pub octetsAt : List ℕ → ℕ → HexOctets
 octetsAt line at = hex 4096 (drop at line)
 
 unfoldable pub onOctets : ℕ → List ℕ → ℕ → Bool → Command → State → Said
 onOctets n line at isImage c s =
-    ended n s (octetsAt line at .ends) (cond isImage (image n s (octetsAt line at .octets)) (call c s (octetsAt line at .octets)))
+    unlessWhole n s (octetsAt line at .ends) (cond isImage (image n s (octetsAt line at .octets)) (call c s (octetsAt line at .octets)))
 
 unfoldable pub byAsks : ℕ → List ℕ → Command → State → Asks → Said
 byAsks n line c s Passed = says [] s

@@ -25,8 +25,8 @@ abbrev pub held : ℕ → List ℕ → ℕ
 held have p = cond (ltb longest (have + length p)) (suc longest) (have + length p)
 
 -- the line after a piece more; of one that is too long nothing more is kept
-abbrev pub kept : List ℕ → ℕ → List ℕ → List ℕ
-kept line have p = cond (ltb longest (have + length p)) line (splice line have p)
+abbrev pub withPiece : List ℕ → ℕ → List ℕ → List ℕ
+withPiece line have p = cond (ltb longest (have + length p)) line (splice line have p)
 
 -- where the next line begins, how long this one is, and whether it is whole
 unfoldable pub gathered : List ℕ → ℕ → ℕ → Gathered

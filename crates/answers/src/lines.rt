@@ -2,7 +2,7 @@
 ghost use mathlib.Core.Path.{_≡_};
 ghost use Prim.Native.Nat.{_+_, _≤_};
 ghost use lib.ListN.{length, drop};
-ghost use Rattle.answers.specs.Lines.{lineEnd, piece, kept, gathered};
+ghost use Rattle.answers.specs.Lines.{lineEnd, piece, withPiece, gathered};
 
 // Where the next line begins, how long this one is by now, and whether it is whole.
 pub struct Gathered {
@@ -28,7 +28,7 @@ fn line_end(s: &[u8], from: usize) -> usize
 pub fn gather(input: &[u8], from: usize, line: &mut [u8; 16384], have: usize) -> Gathered
     requires { ⌜ (from ≤ length (now input)) × (have ≤ 16385) ⌝ }
     ensures gathered { λ r. ⌜ r ≡ gathered (now (input .entry)) from have ⌝ }
-    ensures line { λ _. ⌜ now (line .exit) ≡ kept (now (line .entry)) have (piece (now (input .entry)) from) ⌝ }
+    ensures line { λ _. ⌜ now (line .exit) ≡ withPiece (now (line .entry)) have (piece (now (input .entry)) from) ⌝ }
     ensures within { λ r. ⌜ (r .next ≤ length (now (input .entry))) × (r .have ≤ 16385) ⌝ }
 {
     let end = line_end(input, from);

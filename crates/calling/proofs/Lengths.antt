@@ -11,7 +11,7 @@ use lib.ListN.{length, length-append}
 use lib.Dec.{leb, eqb}
 use Rattle.octets.specs.Reader.{fault, sound}
 use Rattle.components.specs.Component.{invoke, error}
-use Rattle.components.specs.Written.{componentOctets, answer, codedLength, answerLength}
+use Rattle.components.specs.Written.{componentOctets, resultFor, codedLength, resultLength}
 use Rattle.writing.proofs.WriteLaws.{invoke-octets, error-octets, answer-octets}
 use Rattle.messages.specs.Layout.{register, facilityMessage}
 use Rattle.calling.specs.Calls.{Sending, fitting}
@@ -70,12 +70,12 @@ module _ (first : ℕ) (id : ℤ) (o : ℕ) (p : List ℕ) where
   unfolding facilityMessage
   facility-error = omega (arith, error-octets id o p)
 
-  pub facility-answer : length (facilityMessage first (componentOctets (answer id o p))) ≡ 3 + answerLength (length p)
+  pub facility-answer : length (facilityMessage first (componentOctets (resultFor id o p))) ≡ 3 + resultLength (length p)
   unfolding facilityMessage
   facility-answer = omega (arith, answer-octets id o p)
 
 -- a parameter of more than 255 octets is in no message
-pub long-answer : (n : ℕ) → 255 < n → 255 < 3 + answerLength n
+pub long-answer : (n : ℕ) → 255 < n → 255 < 3 + resultLength n
 long-answer n h =
     let e : eqb n 0 ≡ false = ne-eqb n 0 (λ z. absurd (omega arith)) in
     rw e (omega arith)

@@ -14,7 +14,7 @@ use Rattle.codes.specs.Operations.{begins}
 use Rattle.codes.specs.Errors.{listed}
 use Rattle.codes.proofs.IdLaws.{asHeld, IsId, held-is}
 use Rattle.parameters.specs.Suits.{suits, noneOrOne, InvokeWritten, ResultWritten}
-use Rattle.components.specs.Written.{codedLength, answerLength}
+use Rattle.components.specs.Written.{codedLength, resultLength}
 use Rattle.messages.specs.Layout.{sentFirst}
 use Rattle.table.specs.Table.{entryNumber, named, entryAt, valid, lowestClosed}
 use Rattle.table.specs.Seen.{invokeSeen, slotSeen}
@@ -203,12 +203,12 @@ module _ (table : List ℕ) (room flag value : ℕ) (id : ℤ) (p : List ℕ) wh
 
           pub result-long : 255 < length p → fault 26 ≡ sendResult table room flag value id p
           unfolding result-sends
-          result-long h = too-long room (result-sends k slot o) (3 + answerLength (length p)) (facility-answer (sentFirst flag value) id o p) (long-answer (length p) h) ∙ result-ready
+          result-long h = too-long room (result-sends k slot o) (3 + resultLength (length p)) (facility-answer (sentFirst flag value) id o p) (long-answer (length p) h) ∙ result-ready
 
-          module _ (r : ℕ) (e : r ≡ lengthRefusal (3 + answerLength (length p)) room) where
+          module _ (r : ℕ) (e : r ≡ lengthRefusal (3 + resultLength (length p)) room) where
             pub result-refused : (r ≡ 0 → ⊥) → fault r ≡ sendResult table room flag value id p
             unfolding result-sends
-            result-refused n = refused room (result-sends k slot o) (3 + answerLength (length p)) (facility-answer (sentFirst flag value) id o p) r e n ∙ result-ready
+            result-refused n = refused room (result-sends k slot o) (3 + resultLength (length p)) (facility-answer (sentFirst flag value) id o p) r e n ∙ result-ready
 
             pub result-goes : r ≡ 0 → NamedWithin flag value (Named.At k)
                 → (callSeen (answered flag value id p) (Call.Goes k (clearedSlot slot) o) ≡ sendResult table room flag value id p)
@@ -216,7 +216,7 @@ module _ (table : List ℕ) (room flag value : ℕ) (id : ℤ) (p : List ℕ) wh
                 × (o ≡ operationOf id (entryAt table k .peer))
             unfolding result-sends
             result-goes z w =
-                let f = fits room (result-sends k slot o) (3 + answerLength (length p)) (facility-answer (sentFirst flag value) id o p) r e z in
+                let f = fits room (result-sends k slot o) (3 + resultLength (length p)) (facility-answer (sentFirst flag value) id o p) r e z in
                 (f .0 ∙ result-ready, (within table k d (w .1 .1), (w .0, (w .1 .0, f .1))), rw (← seen) q)
 
 -- error

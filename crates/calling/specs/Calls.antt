@@ -12,8 +12,8 @@ use Rattle.codes.specs.Operations.{begins}
 use Rattle.codes.specs.Errors.{listed}
 use Rattle.parameters.specs.Suits.{suits, noneOrOne, InvokeWritten, ResultWritten}
 use Rattle.components.specs.Component.{invoke, error}
-use Rattle.components.specs.Written.{componentOctets, answer}
-use Rattle.messages.specs.Layout.{sentFirst, register, facilityMessage, release}
+use Rattle.components.specs.Written.{componentOctets, resultFor}
+use Rattle.messages.specs.Layout.{sentFirst, register, facilityMessage, releaseEmpty}
 use Rattle.table.specs.Table.{Entry, closed, entryNumber, named, entryAt, valid, lowestClosed}
 use Rattle.judging.specs.StepSix.{among, full, operationOf, without}
 
@@ -82,7 +82,7 @@ sendResult table room flag value id p =
     (record {
       entry = k;
       becomes = withoutPeer (entryAt table k) id;
-      message = facilityMessage (sentFirst flag value) (componentOctets (answer id (operationOf id (entryAt table k .peer)) p));
+      message = facilityMessage (sentFirst flag value) (componentOctets (resultFor id (operationOf id (entryAt table k .peer)) p));
     })))))
 
 -- "20 .. error code not listed"; "25 parameter, which for an error is none or one element"
@@ -105,4 +105,4 @@ unfoldable pub sendRelease : List ℕ → ℕ → ℕ → ℕ → Answer Sending
 sendRelease table room flag value =
     check (valid table) 28
     (andThen (transaction table flag value) (λ k.
-    fitting room (record { entry = k; becomes = closed; message = release (sentFirst flag value) })))
+    fitting room (record { entry = k; becomes = closed; message = releaseEmpty (sentFirst flag value) })))

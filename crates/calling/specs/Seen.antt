@@ -9,8 +9,8 @@ use lib.ListN.{length}
 use lib.Dec.{leb}
 use Rattle.octets.specs.Reader.{Answer, fault, sound}
 use Rattle.components.specs.Component.{invoke, error}
-use Rattle.components.specs.Written.{componentOctets, answer}
-use Rattle.messages.specs.Layout.{sentFirst, register, facilityMessage, release}
+use Rattle.components.specs.Written.{componentOctets, resultFor}
+use Rattle.messages.specs.Layout.{sentFirst, register, facilityMessage, releaseEmpty}
 use Rattle.table.specs.Table.{size, entryAt}
 use Rattle.table.specs.Seen.{slotSeen, namedSeen}
 use Rattle.table.specs.declared.Named.{Named}
@@ -47,13 +47,13 @@ abbrev pub invoked : ℕ → ℕ → ℕ → ℤ → List ℕ → ℕ → ℕ �
 invoked flag value operation id p k o = facilityMessage (sentFirst flag value) (componentOctets (invoke id none operation p))
 
 abbrev pub answered : ℕ → ℕ → ℤ → List ℕ → ℕ → ℕ → List ℕ
-answered flag value id p k o = facilityMessage (sentFirst flag value) (componentOctets (answer id o p))
+answered flag value id p k o = facilityMessage (sentFirst flag value) (componentOctets (resultFor id o p))
 
 abbrev pub erred : ℕ → ℕ → ℤ → ℕ → List ℕ → ℕ → ℕ → List ℕ
 erred flag value id code p k o = facilityMessage (sentFirst flag value) (componentOctets (error id code p))
 
 abbrev pub releaseSent : ℕ → ℕ → ℕ → ℕ → List ℕ
-releaseSent flag value k o = release (sentFirst flag value)
+releaseSent flag value k o = releaseEmpty (sentFirst flag value)
 
 abbrev pub DecidesBegin : List ℕ → ℕ → ℕ → ℤ → List ℕ → Call → Type 0
 DecidesBegin table room operation id p call =

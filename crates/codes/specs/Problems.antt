@@ -3,18 +3,18 @@ use Prim.Native.Nat.{ℕ}
 use mathlib.Core.Bool.{Bool, _&&_}
 use lib.Dec.{leb}
 
-abbrev pub general : ℕ
-general = 0x80
+abbrev pub generalProblem : ℕ
+generalProblem = 0x80
 
-abbrev pub invoke : ℕ
-invoke = 0x81
+abbrev pub invokeProblem : ℕ
+invokeProblem = 0x81
 
-abbrev pub result : ℕ
-result = 0x82
+abbrev pub resultProblem : ℕ
+resultProblem = 0x82
 
-abbrev pub error : ℕ
-error = 0x83
+abbrev pub errorProblem : ℕ
+errorProblem = 0x83
 
 -- "then one of 80, 81, 82, 83"
 abbrev pub problemTag : ℕ → Bool
-problemTag tag = leb general tag && leb tag error
+problemTag tag = leb generalProblem tag && leb tag errorProblem

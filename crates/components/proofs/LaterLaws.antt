@@ -15,7 +15,7 @@ use Rattle.octets.proofs.ReaderLaws.{sound-inj, through, IsLocal, done-local, s
 use Rattle.elements.specs.Element.{refusedTag, lengthOf, Element, element, written, row}
 use Rattle.elements.proofs.ElementLaws.{length-local, element-local}
 use Rattle.codes.specs.Ids.{idOf}
-use Rattle.places.specs.Places.{misplaced, octetIn, single, parameter, called, Coded, coded}
+use Rattle.places.specs.Places.{misplaced, octetIn, single, parameter, invokePlaces, Coded, coded}
 use Rattle.parameters.specs.Parameter.{Text, ussd}
 use Rattle.parameters.proofs.ParameterLaws.{ussd-more}
 use Rattle.components.specs.Component.{Component, invoke, result, parameterOf, invokeTag, resultTag, rejectTag, invokeOf, resultOf}
@@ -31,8 +31,8 @@ pub single-local : (tag : ℕ) → IsLocal (single tag)
 unfolding single
 single-local tag = seq-local element _ element-local λ e. octet-local tag e
 
-pub called-local : IsLocal called
-unfolding called
+pub called-local : IsLocal invokePlaces
+unfolding invokePlaces
 called-local =
     seq-local element _ element-local λ e.
     cond-local (eqb (e .tag) 0x80) _ _
@@ -84,7 +84,7 @@ invoke-later : (before p q : List ℕ) (c : Component) → component invokeTag (
 unfolding component afterTag invokeOf
 invoke-later before p q c e h k =
     through (single 0x02 (before ++ p)) _ c e λ i a b.
-    through (called (i .rest)) _ c b λ g u v.
+    through (invokePlaces (i .rest)) _ c b λ g u v.
     through (parameter (g .rest)) _ c v λ o w z.
     let f = single-local 0x02 (before ++ p) i a in
     let l = called-local (i .rest) g u in

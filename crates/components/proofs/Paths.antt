@@ -17,7 +17,7 @@ use Rattle.octets.proofs.PartLaws.{length-between, getD-between, to-end, none-b
 use Rattle.elements.specs.Element.{element}
 use Rattle.codes.specs.Ids.{idOf}
 use Rattle.codes.specs.Problems.{problemTag}
-use Rattle.places.specs.Places.{misplaced, single, parameter, CalledPlaces, called, coded, rejected}
+use Rattle.places.specs.Places.{misplaced, single, parameter, InvokePlaces, invokePlaces, coded, rejected}
 use Rattle.places.specs.Seen.{last}
 use Rattle.places.proofs.Left.{nothing-left, something-left, left-none, left-some, last-is, last-end}
 use Rattle.components.specs.Component.{Component, invoke, result, error, reject, parameterOf, invokeTag, rejectTag, invokeOf, resultOf, errorOf, rejectOf}
@@ -31,12 +31,12 @@ use Rattle.components.specs.declared.shown.Shown.{Shown}
 use Rattle.components.specs.declared.shown.Shown.the-variants.{Invoke, Result, Error, Reject}
 use Rattle.components.specs.declared.facility.Reading.{Reading}
 
-pub invoke-none : (s : List ℕ) (i : ℤ) (n : ℕ) → fault n ≡ called s → fault n ≡ invokeOf i s
+pub invoke-none : (s : List ℕ) (i : ℤ) (n : ℕ) → fault n ≡ invokePlaces s → fault n ≡ invokeOf i s
 unfolding invokeOf
 invoke-none s i n e = rw (← e)
 
 -- an operation with its linked id, and what is left behind it; i is the id as the code holds it
-module _ (s : List ℕ) (c : CalledPlaces) (e : ℕ) (q : took c (drop e s) ≡ called s) (d : ℤ) where
+module _ (s : List ℕ) (c : InvokePlaces) (e : ℕ) (q : took c (drop e s) ≡ invokePlaces s) (d : ℤ) where
   pub invoke-fault : (n : ℕ) → fault n ≡ parameter (drop e s) → fault n ≡ invokeOf d s
   unfolding invokeOf
   invoke-fault n z = rw (← q, ← z)

@@ -18,10 +18,10 @@ use Rattle.elements.proofs.ElementLaws.{written-reads-back}
 use Rattle.codes.specs.Ids.{octetOf}
 use Rattle.codes.specs.Problems.{problemTag}
 use Rattle.codes.proofs.IdLaws.{id-back}
-use Rattle.places.specs.Places.{single, called, coded, rejected}
+use Rattle.places.specs.Places.{single, invokePlaces, coded, rejected}
 use Rattle.components.specs.Component.{Component, invoke, result, error, reject, invokeTag, resultTag, errorTag, rejectTag, invokeOf, resultOf, errorOf, rejectOf}
 use Rattle.components.specs.Facility.{shows, afterTag, component, inside, facility}
-use Rattle.components.specs.Written.{octetPlace, linkedPlace, resultPlace, rejectPlace, contents, componentOctets, answer, IsParameter, IsSomeId, HoldsResult, Writable}
+use Rattle.components.specs.Written.{octetPlace, linkedPlace, resultPlace, rejectPlace, contents, componentOctets, resultFor, IsParameter, IsSomeId, HoldsResult, Writable}
 
 -- an element written alone
 pub alone-back : (tag : ℕ) (c : List ℕ) → refusedTag tag ≡ false → element (written tag c) ≡ took (record { tag = tag; contents = c }) []
@@ -36,8 +36,8 @@ pub single-back : (x : ℕ) (r : List ℕ) → single 0x02 (0x02 ∷ 0x01 ∷ x 
 unfolding single
 single-back x r = rw (place-back 0x02 x r refl)
 
-called-back : (linked : Option ℤ) (o : ℕ) (p : List ℕ) → IsSomeId linked → called (linkedPlace linked ++ octetPlace 0x02 o ++ p) ≡ took (record { linked = linked; operation = o }) p
-unfolding called
+called-back : (linked : Option ℤ) (o : ℕ) (p : List ℕ) → IsSomeId linked → invokePlaces (linkedPlace linked ++ octetPlace 0x02 o ++ p) ≡ took (record { linked = linked; operation = o }) p
+unfolding invokePlaces
 called-back none o p h = rw (place-back 0x02 o p refl)
 called-back (some l) o p h = rw (place-back 0x80 (octetOf l) (0x02 ∷ 0x01 ∷ o ∷ p) refl, single-back o p, id-back h)
 
@@ -98,7 +98,7 @@ read-back (reject id tag problem) h =
     ∙ inside-is rejectTag (contents (reject id tag problem)) (reject id tag problem) (reject-back id tag problem (h .0) (h .1) (problem-tag tag (h .1)))
 
 -- a Return result without a parameter reads back without an operation
-pub answer-writable : (id : ℤ) (operation : ℕ) (p : List ℕ) → SFits w8 id → IsParameter p → Writable (answer id operation p)
-unfolding answer
+pub answer-writable : (id : ℤ) (operation : ℕ) (p : List ℕ) → SFits w8 id → IsParameter p → Writable (resultFor id operation p)
+unfolding resultFor
 answer-writable id operation [] h k = (h, refl)
 answer-writable id operation (a ∷ p) h k = (h, k)

@@ -14,7 +14,7 @@ use Rattle.elements.specs.Element.{refusedTag, unreadable, lengthOf, Element, e
 use Rattle.elements.proofs.ElementLaws.{length-local, alone-ends}
 use Rattle.codes.specs.Ids.{idOf}
 use Rattle.codes.specs.Problems.{problemTag}
-use Rattle.places.specs.Places.{misplaced, single, parameter, called, Coded, coded, rejected}
+use Rattle.places.specs.Places.{misplaced, single, parameter, invokePlaces, Coded, coded, rejected}
 use Rattle.components.specs.Component.{Component, parameterOf, invokeTag, resultTag, rejectTag, invokeOf, resultOf, errorOf, rejectOf}
 use Rattle.components.specs.Facility.{Finding, empty, shows, general, leftOver, faultyReject, afterTag, component, inside, outer, facility}
 use Rattle.components.specs.LaterEdition.{Encloses}
@@ -104,7 +104,7 @@ reject-ends s c e =
 invoke-ends : (id : ℤ) (s : List ℕ) (c : Component) → invokeOf id s ≡ sound c → Ends (parameterOf c) s
 unfolding invokeOf
 invoke-ends id s c e =
-    through (called s) _ c e λ g u v.
+    through (invokePlaces s) _ c e λ g u v.
     through (parameter (g .rest)) _ c v λ o w z.
     let l = called-local s g u in
     let r : g .rest ≡ parameterOf c = sym (parameter-was (g .rest) o w) ∙ ap parameterOf (sound-inj z) in

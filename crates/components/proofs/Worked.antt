@@ -6,10 +6,10 @@ use mathlib.Core.Option.{none, some}
 use lib.IntN.{pos, negsuc}
 use lib.ListN.{length, replicate}
 use Rattle.elements.specs.Element.{lengthOf, element, shortest}
-use Rattle.places.specs.Places.{single, parameter, called, coded, rejected}
+use Rattle.places.specs.Places.{single, parameter, invokePlaces, coded, rejected}
 use Rattle.components.specs.Component.{invoke, result, error, reject, invokeOf, resultOf, errorOf, rejectOf}
 use Rattle.components.specs.Facility.{empty, shows, general, leftOver, faultyReject, afterTag, component, inside, facility}
-use Rattle.components.specs.Written.{contents, componentOctets, answer}
+use Rattle.components.specs.Written.{contents, componentOctets, resultFor}
 
 abbrev parameter120 : List ℕ
 parameter120 = 0x30 ∷ 0x7D ∷ 0x04 ∷ 0x01 ∷ 0x0F ∷ 0x04 ∷ 0x78 ∷ replicate 120 0x41
@@ -31,9 +31,9 @@ pub worked :
     × (facility (0xA5 ∷ 0x00 ∷ []) ≡ general 0 none)
     × (facility (0xA1 ∷ 0x0E ∷ 0x02 ∷ 0x01 ∷ 0x01 ∷ 0x02 ∷ 0x01 ∷ 0x3B ∷ 0x30 ∷ 0x06 ∷ 0x04 ∷ 0x01 ∷ 0x0F ∷ 0x04 ∷ 0x01 ∷ 0x41 ∷ []) ≡ shows (invoke (pos 1) none 59 (0x30 ∷ 0x06 ∷ 0x04 ∷ 0x01 ∷ 0x0F ∷ 0x04 ∷ 0x01 ∷ 0x41 ∷ [])))
     -- as they are written
-    × (componentOctets (answer (pos 5) 60 (0x30 ∷ 0x06 ∷ 0x04 ∷ 0x01 ∷ 0x0F ∷ 0x04 ∷ 0x01 ∷ 0x31 ∷ [])) ≡ 0xA2 ∷ 0x10 ∷ 0x02 ∷ 0x01 ∷ 0x05 ∷ 0x30 ∷ 0x0B ∷ 0x02 ∷ 0x01 ∷ 0x3C ∷ 0x30 ∷ 0x06 ∷ 0x04 ∷ 0x01 ∷ 0x0F ∷ 0x04 ∷ 0x01 ∷ 0x31 ∷ [])
+    × (componentOctets (resultFor (pos 5) 60 (0x30 ∷ 0x06 ∷ 0x04 ∷ 0x01 ∷ 0x0F ∷ 0x04 ∷ 0x01 ∷ 0x31 ∷ [])) ≡ 0xA2 ∷ 0x10 ∷ 0x02 ∷ 0x01 ∷ 0x05 ∷ 0x30 ∷ 0x0B ∷ 0x02 ∷ 0x01 ∷ 0x3C ∷ 0x30 ∷ 0x06 ∷ 0x04 ∷ 0x01 ∷ 0x0F ∷ 0x04 ∷ 0x01 ∷ 0x31 ∷ [])
     × (componentOctets (invoke (pos 1) none 59 (0x30 ∷ 0x06 ∷ 0x04 ∷ 0x01 ∷ 0x0F ∷ 0x04 ∷ 0x01 ∷ 0x41 ∷ [])) ≡ 0xA1 ∷ 0x0E ∷ 0x02 ∷ 0x01 ∷ 0x01 ∷ 0x02 ∷ 0x01 ∷ 0x3B ∷ 0x30 ∷ 0x06 ∷ 0x04 ∷ 0x01 ∷ 0x0F ∷ 0x04 ∷ 0x01 ∷ 0x41 ∷ [])
-    × (componentOctets (answer (pos 5) 61 []) ≡ 0xA2 ∷ 0x03 ∷ 0x02 ∷ 0x01 ∷ 0x05 ∷ [])
+    × (componentOctets (resultFor (pos 5) 61 []) ≡ 0xA2 ∷ 0x03 ∷ 0x02 ∷ 0x01 ∷ 0x05 ∷ [])
     × (componentOctets (reject (some (pos 5)) 0x81 0) ≡ 0xA4 ∷ 0x06 ∷ 0x02 ∷ 0x01 ∷ 0x05 ∷ 0x81 ∷ 0x01 ∷ 0x00 ∷ [])
     × (componentOctets (reject none 0x80 0) ≡ 0xA4 ∷ 0x05 ∷ 0x05 ∷ 0x00 ∷ 0x80 ∷ 0x01 ∷ 0x00 ∷ [])
     × (componentOctets (error (negsuc 0) 17 []) ≡ 0xA3 ∷ 0x06 ∷ 0x02 ∷ 0x01 ∷ 0xFF ∷ 0x02 ∷ 0x01 ∷ 0x11 ∷ [])
@@ -99,5 +99,5 @@ pub worked :
     × (facility (0xA4 ∷ 0x03 ∷ 0x02 ∷ 0x01 ∷ 0x05 ∷ []) ≡ faultyReject)
     × (facility (0xA4 ∷ 0x06 ∷ 0x02 ∷ 0x01 ∷ 0x63 ∷ 0x84 ∷ 0x01 ∷ 0x00 ∷ []) ≡ faultyReject)
     × (facility (0xA4 ∷ 0x00 ∷ 0x00 ∷ []) ≡ leftOver)
-unfolding lengthOf element shortest single parameter called coded rejected invokeOf resultOf errorOf rejectOf afterTag component inside facility contents answer
+unfolding lengthOf element shortest single parameter invokePlaces coded rejected invokeOf resultOf errorOf rejectOf afterTag component inside facility contents resultFor
 worked = (refl, refl, refl, refl, refl, refl, refl, refl, refl, refl, refl, refl, refl, refl, refl, refl, refl, refl, refl, refl, refl, refl, refl, refl, refl, refl, refl, refl, refl, refl, refl, refl, refl, refl, refl, refl, refl, refl, refl, refl, refl, refl, refl, refl, refl, refl, refl, refl, refl, refl, refl, refl, refl, refl, refl, refl, refl, refl, refl, refl)

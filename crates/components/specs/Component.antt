@@ -9,7 +9,7 @@ use lib.Dec.{eqb}
 use Rattle.octets.specs.Reader.{Answer, sound, andThen, check, isEmpty, alone}
 use Rattle.elements.specs.Element.{element}
 use Rattle.codes.specs.Problems.{problemTag}
-use Rattle.places.specs.Places.{misplaced, parameter, called, coded, rejected}
+use Rattle.places.specs.Places.{misplaced, parameter, invokePlaces, coded, rejected}
 
 -- A parameter is its octets, "its tag and length included"; no parameter is no octets.
 pub data Component : Type 0 where
@@ -42,7 +42,7 @@ rejectTag = 0xA4
 
 -- what follows the id of an Invoke
 unfoldable pub invokeOf : ℤ → List ℕ → Answer Component
-invokeOf id s = andThen (called s) (λ c. andThen (parameter (c .rest)) (λ p. sound (invoke id (c .value .linked) (c .value .operation) p)))
+invokeOf id s = andThen (invokePlaces s) (λ c. andThen (parameter (c .rest)) (λ p. sound (invoke id (c .value .linked) (c .value .operation) p)))
 
 -- what follows the id of a Return result: nothing, or the 30 and nothing behind it
 unfoldable pub resultOf : ℤ → List ℕ → Answer Component

@@ -51,8 +51,8 @@ abbrev pub componentOctets : Component → List ℕ
 componentOctets c = written (tagOf c) (contents c)
 
 -- the Return result that answers an operation: "Without a parameter we write no 30"
-unfoldable pub answer : ℤ → ℕ → List ℕ → Component
-answer id operation p = cond (isEmpty p) (result id none []) (result id (some operation) p)
+unfoldable pub resultFor : ℤ → ℕ → List ℕ → Component
+resultFor id operation p = cond (isEmpty p) (result id none []) (result id (some operation) p)
 
 -- how long an element is, by the length of its contents
 abbrev pub enclosedLength : ℕ → ℕ
@@ -62,8 +62,8 @@ enclosedLength n = 1 + length (shortest n) + n
 abbrev pub codedLength : ℕ → ℕ
 codedLength n = enclosedLength (6 + n)
 
-abbrev pub answerLength : ℕ → ℕ
-answerLength n = cond (eqb n 0) (enclosedLength 3) (enclosedLength (3 + enclosedLength (3 + n)))
+abbrev pub resultLength : ℕ → ℕ
+resultLength n = cond (eqb n 0) (enclosedLength 3) (enclosedLength (3 + enclosedLength (3 + n)))
 
 -- "optional one parameter": none, or one element
 abbrev pub IsParameter : List ℕ → Type 0

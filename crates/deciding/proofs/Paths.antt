@@ -10,7 +10,7 @@ use lib.ListN.{length, getD, take, drop}
 use borrow.Author.Tests.{eq-eqb, ne-eqb, le-leb, lt-leb}
 use Rattle.octets.specs.Part.{between}
 use Rattle.octets.specs.Reader.{Taken, fault, took}
-use Rattle.codes.specs.Problems.{general as generalTag}
+use Rattle.codes.specs.Problems.{generalProblem}
 use Rattle.codes.proofs.IdLaws.{asHeld, IsId, held-is}
 use Rattle.places.specs.Seen.{last}
 use Rattle.places.proofs.Left.{last-part, last-taken}
@@ -103,7 +103,7 @@ module _ (e : Entry) (s : List ℕ) (a end : ℕ) where
   five-shows r d h l k q z = rw (← q, shown-part r s a end h l k) z
 
   pub five-general : (number : ℕ) (id : Option ℤ) → general number id ≡ facility (between a end s)
-      → withReject id generalTag number ≡ fiveAndSix e (facility (between a end s)) (drop end s)
+      → withReject id generalProblem number ≡ fiveAndSix e (facility (between a end s)) (drop end s)
   unfolding fiveAndSix
   five-general number id q = rw (← q)
 

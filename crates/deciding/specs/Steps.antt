@@ -9,7 +9,7 @@ use lib.ListN.{length, getD, drop}
 use lib.Dec.{leb, eqb}
 use Rattle.octets.specs.Reader.{Answer, fault, sound, Taken}
 use Rattle.octets.specs.Unless.{unless}
-use Rattle.codes.specs.Problems.{general as generalTag}
+use Rattle.codes.specs.Problems.{generalProblem}
 use Rattle.components.specs.Component.{Component, invoke, result, error, reject}
 use Rattle.components.specs.Facility.{Finding, empty, shows, general, leftOver, faultyReject, facility}
 use Rattle.messages.specs.Layout.{discriminator, value, flag, sentFirst, releaseType, facilityType, registerType}
@@ -83,7 +83,7 @@ opened e = record { isOpen = true; own = e .own; peer = e .peer }
 abbrev pub stepFive : Entry → Finding → (Component → Decision) → Decision
 stepFive e empty next = taken (opened e) none
 stepFive e (shows c) next = next c
-stepFive e (general number id) next = withReject id generalTag number
+stepFive e (general number id) next = withReject id generalProblem number
 stepFive e leftOver next = withCause 29
 stepFive e faultyReject next = onReject none
 

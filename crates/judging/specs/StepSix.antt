@@ -9,7 +9,7 @@ use Rattle.octets.specs.Unless.{unless}
 use Rattle.codes.specs.Ids.{octetOf}
 use Rattle.codes.specs.Operations.{serves, waits}
 use Rattle.codes.specs.Errors.{listed}
-use Rattle.codes.specs.Problems.{invoke, result, error}
+use Rattle.codes.specs.Problems.{invokeProblem, resultProblem, errorProblem}
 use Rattle.parameters.specs.Suits.{suits, InvokeReceived, ResultReceived}
 use Rattle.table.specs.Table.{Waiting, Entry}
 
@@ -53,7 +53,7 @@ linkedProblem own (some id) operation =
 
 abbrev pub orProblem : Option ℕ → Judged → Judged
 orProblem none next = next
-orProblem (some number) next = problem invoke number
+orProblem (some number) next = problem invokeProblem number
 
 -- an invoke that waits for our answer is kept behind those that wait
 abbrev pub kept : List Waiting → ℤ → ℕ → List Waiting
@@ -67,11 +67,11 @@ withPeer e id operation = record { isOpen = true; own = e .own; peer = kept (e .
 -- parameter, 2."
 unfoldable pub judgeInvoke : Entry → ℤ → Option ℤ → ℕ → List ℕ → Judged
 judgeInvoke e id linked operation p =
-    unless (not (among id (e .peer))) (problem invoke 0)
-    (unless (not (full (e .peer))) (problem invoke 3)
-    (unless (serves operation) (problem invoke 1)
+    unless (not (among id (e .peer))) (problem invokeProblem 0)
+    (unless (not (full (e .peer))) (problem invokeProblem 3)
+    (unless (serves operation) (problem invokeProblem 1)
     (orProblem (linkedProblem (e .own) linked operation)
-    (unless (suits InvokeReceived operation p) (problem invoke 2)
+    (unless (suits InvokeReceived operation p) (problem invokeProblem 2)
     (accepted (withPeer e id operation))))))
 
 -- "A result or error received clears the own invoke, and the transaction stays open."
@@ -86,13 +86,13 @@ isOurs (some operation) ours = eqb operation ours
 -- "Result: id, result problem 0; operation other than ours, or parameter, 2."
 unfoldable pub judgeResult : Entry → ℤ → Option ℕ → List ℕ → Judged
 judgeResult e id operation p =
-    unless (among id (e .own)) (problem result 0)
-    (unless (isOurs operation (operationOf id (e .own)) && suits ResultReceived (operationOf id (e .own)) p) (problem result 2)
+    unless (among id (e .own)) (problem resultProblem 0)
+    (unless (isOurs operation (operationOf id (e .own)) && suits ResultReceived (operationOf id (e .own)) p) (problem resultProblem 2)
     (accepted (withoutOwn e id)))
 
 -- "Error: id, error problem 0; code not listed, 2."
 unfoldable pub judgeError : Entry → ℤ → ℕ → Judged
 judgeError e id code =
-    unless (among id (e .own)) (problem error 0)
-    (unless (listed code) (problem error 2)
+    unless (among id (e .own)) (problem errorProblem 0)
+    (unless (listed code) (problem errorProblem 2)
     (accepted (withoutOwn e id)))

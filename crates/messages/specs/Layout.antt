@@ -50,8 +50,8 @@ unfoldable pub facilityMessage : ℕ → List ℕ → List ℕ
 facilityMessage first facility = first ∷ facilityType ∷ length facility ∷ facility
 
 -- "RELEASE COMPLETE: optional cause, 08 02 E0 then 128 plus the cause; optional Facility with 1C."
-abbrev pub release : ℕ → List ℕ
-release first = first ∷ releaseType ∷ []
+abbrev pub releaseEmpty : ℕ → List ℕ
+releaseEmpty first = first ∷ releaseType ∷ []
 
 abbrev pub releaseCause : ℕ → ℕ → List ℕ
 releaseCause first cause = first ∷ releaseType ∷ 0x08 ∷ 0x02 ∷ 0xE0 ∷ (128 + cause) ∷ []

@@ -16,7 +16,7 @@ use Rattle.octets.specs.Reader.{fault, sound, took, isEmpty}
 use Rattle.octets.proofs.PartLaws.{length-between, getD-between}
 use Rattle.elements.specs.Element.{Element, element}
 use Rattle.codes.specs.Ids.{idOf}
-use Rattle.places.specs.Places.{misplaced, octetIn, single, parameter, called, coded, rejected}
+use Rattle.places.specs.Places.{misplaced, octetIn, single, parameter, invokePlaces, coded, rejected}
 use Rattle.places.specs.Seen.{last}
 use Rattle.places.proofs.Left.{nothing-left, something-left, left-none, left-some, last-is}
 
@@ -61,35 +61,35 @@ module _ (s : List ℕ) (t a e : ℕ) (h : a ≤ e) (l : e ≤ length s) (q : to
   unfolding parameter
   lone n f = rw (n, ← q, left-none s e f)
 
-  pub called-length : (e - a ≡ 1 → ⊥) → fault misplaced ≡ called s
-  unfolding called
+  pub called-length : (e - a ≡ 1 → ⊥) → fault misplaced ≡ invokePlaces s
+  unfolding invokePlaces
   called-length f = go (eqb t 0x80) refl
     where
-      go : (b : Bool) → eqb t 0x80 ≡ b → fault misplaced ≡ called s
+      go : (b : Bool) → eqb t 0x80 ≡ b → fault misplaced ≡ invokePlaces s
       go true n = rw (← q, n, length-between a e s l, ne-eqb (e - a) 1 f)
       go false n = rw (← q, n, octet-length s 0x02 t a e h l (drop e s) f)
 
-  pub called-tag : (t ≡ 0x02 → ⊥) → (t ≡ 0x80 → ⊥) → fault misplaced ≡ called s
-  unfolding called
+  pub called-tag : (t ≡ 0x02 → ⊥) → (t ≡ 0x80 → ⊥) → fault misplaced ≡ invokePlaces s
+  unfolding invokePlaces
   called-tag f g = rw (← q, ne-eqb t 0x80 g, octet-tag s 0x02 t a e h l (drop e s) f)
 
-  pub called-plain : t ≡ 0x02 → e - a ≡ 1 → took (record { linked = none; operation = getD s a 0 }) (drop e s) ≡ called s
-  unfolding called
+  pub called-plain : t ≡ 0x02 → e - a ≡ 1 → took (record { linked = none; operation = getD s a 0 }) (drop e s) ≡ invokePlaces s
+  unfolding invokePlaces
   called-plain f g = let n : (t ≡ 0x80 → ⊥) = λ z. omega arith in rw (← q, ne-eqb t 0x80 n, octet-is s 0x02 t a e h l (drop e s) f g)
 
   module _ (f : t ≡ 0x80) (g : e - a ≡ 1) where
-    pub called-fault : (n : ℕ) → fault n ≡ single 0x02 (drop e s) → fault n ≡ called s
-    unfolding called
+    pub called-fault : (n : ℕ) → fault n ≡ single 0x02 (drop e s) → fault n ≡ invokePlaces s
+    unfolding invokePlaces
     called-fault n z = rw (← q, eq-eqb t 0x80 f, length-between a e s l, eq-eqb (e - a) 1 g, ← z)
 
     pub called-linked : (i : ℤ) → i ≡ idOf (getD s a 0) → (o k : ℕ) → took o (drop k (drop e s)) ≡ single 0x02 (drop e s)
-        → took (record { linked = some i; operation = o }) (drop (e + k) s) ≡ called s
-    unfolding called
+        → took (record { linked = some i; operation = o }) (drop (e + k) s) ≡ invokePlaces s
+    unfolding invokePlaces
     called-linked i j o k z =
         rw (j, ← q, eq-eqb t 0x80 f, length-between a e s l, eq-eqb (e - a) 1 g, getD-between a e s 0 (omega arith), add-zero, ← z, drop-drop k e s)
 
-pub called-none : (s : List ℕ) (n : ℕ) → fault n ≡ element s → fault n ≡ called s
-unfolding called
+pub called-none : (s : List ℕ) (n : ℕ) → fault n ≡ element s → fault n ≡ invokePlaces s
+unfolding invokePlaces
 called-none s n e = rw (← e)
 
 pub single-fault : (s : List ℕ) (tag n : ℕ) → fault n ≡ element s → fault n ≡ single tag s

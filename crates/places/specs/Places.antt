@@ -26,13 +26,13 @@ single tag = seq element (λ e. octetIn tag e)
 unfoldable pub parameter : List ℕ → Answer (List ℕ)
 parameter s = cond (isEmpty s) (sound []) (andThen (alone misplaced (element s)) (λ e. sound s))
 
-pub record CalledPlaces : Type 0 where
+pub record InvokePlaces : Type 0 where
   pub linked : Option ℤ
   pub operation : ℕ
 
 -- "optional 80 linked id; 02 operation"
-unfoldable pub called : Reader CalledPlaces
-called =
+unfoldable pub invokePlaces : Reader InvokePlaces
+invokePlaces =
     seq element (λ e.
     cond (eqb (e .tag) 0x80)
     (seq (octetIn 0x80 e) (λ l. seq (single 0x02) (λ o. done (record { linked = some (idOf l); operation = o }))))

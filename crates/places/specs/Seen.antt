@@ -9,7 +9,7 @@ use Rattle.octets.specs.Reader.{Answer, fault, sound, Taken, took}
 use Rattle.elements.specs.Element.{missing, unreadable}
 use Rattle.elements.specs.declared.Found.{Found}
 use Rattle.elements.specs.declared.Found.the-variants.{Missing, Whole}
-use Rattle.places.specs.Places.{single, parameter, CalledPlaces, called, Coded, coded, rejected}
+use Rattle.places.specs.Places.{single, parameter, InvokePlaces, invokePlaces, Coded, coded, rejected}
 use Rattle.places.specs.declared.Id.{Id}
 use Rattle.places.specs.declared.Single.{Single}
 use Rattle.places.specs.declared.Calls.{Calls}
@@ -46,7 +46,7 @@ SingleWithin s (Single.Is octet end) = end ≤ length s
 abbrev pub ReadsSingle : ℕ → List ℕ → Single → Type 0
 ReadsSingle tag s place = (singleSeen s place ≡ single tag s) × SingleWithin s place
 
-abbrev pub callsSeen : List ℕ → Calls → Answer (Taken CalledPlaces)
+abbrev pub callsSeen : List ℕ → Calls → Answer (Taken InvokePlaces)
 callsSeen s (Calls.Fault n) = fault n
 callsSeen s (Calls.Is linked operation end) = took (record { linked = idSeen linked; operation = operation }) (drop end s)
 
@@ -55,7 +55,7 @@ CallsWithin s (Calls.Fault n) = Unit {0}
 CallsWithin s (Calls.Is linked operation end) = end ≤ length s
 
 abbrev pub ReadsCalls : List ℕ → Calls → Type 0
-ReadsCalls s places = (callsSeen s places ≡ called s) × CallsWithin s places
+ReadsCalls s places = (callsSeen s places ≡ invokePlaces s) × CallsWithin s places
 
 abbrev pub callsFault : Calls → ℕ
 callsFault (Calls.Fault n) = n

@@ -25,7 +25,7 @@ use Rattle.messages.proofs.ScanLaws.{mandatory-back, release-later, laid}
 use Rattle.table.specs.Table.{Entry}
 use Rattle.judging.specs.StepSix.{Judged, problem, accepted, orProblem, among, full, linkedProblem, operationOf, isOurs, judgeInvoke, judgeResult}
 use Rattle.codes.specs.Operations.{serves}
-use Rattle.codes.specs.Problems.{invoke as invokeProblem, result as resultProblem}
+use Rattle.codes.specs.Problems.{invokeProblem, resultProblem}
 use Rattle.components.specs.Shows.{ShownComponent, Shows}
 use Rattle.deciding.specs.Decision.{Decision, silent, withCause, released, taken, shownBy}
 use Rattle.deciding.specs.Steps.{shown, onJudged, stepFour, stepSix, fiveAndSix, fourToSix, isInvoke, exceptInvoke, onRelease, pickedEntry}

@@ -12,7 +12,7 @@ use Rattle.octets.specs.Reader.{Answer, Taken}
 use Rattle.octets.proofs.ReaderLaws.{sound-inj}
 use Rattle.parameters.specs.Seen.{TellsSuited}
 use Rattle.parameters.specs.Suits.{isUssd, suits, InvokeReceived, ResultReceived}
-use Rattle.places.specs.Places.{CalledPlaces, Coded}
+use Rattle.places.specs.Places.{InvokePlaces, Coded}
 use Rattle.places.specs.Seen.{idSeen, singleSeen, SingleWithin, callsSeen, CallsWithin, lastSeen, codedSeen, CodedWithin, rejectedSeen, RejectedWithin}
 use Rattle.places.specs.declared.Id.{Id}
 use Rattle.places.specs.declared.Single.{Single}
@@ -77,8 +77,8 @@ calls-determined s (Calls.Fault n) (Calls.Is l y j) a b e = cc
 calls-determined s (Calls.Is k x i) (Calls.Fault m) a b e = cc
 calls-determined s (Calls.Is k x i) (Calls.Is l y j) a b e =
     let g = sound-inj e in
-    let z : i ≡ j = same-end s i j a b (ap (λ (h : Taken CalledPlaces). h .rest) g) in
-    let w : k ≡ l = id-determined k l (ap (λ (h : Taken CalledPlaces). h .value .linked) g) in
+    let z : i ≡ j = same-end s i j a b (ap (λ (h : Taken InvokePlaces). h .rest) g) in
+    let w : k ≡ l = id-determined k l (ap (λ (h : Taken InvokePlaces). h .value .linked) g) in
     λ n. Calls.Is (w n) (g n .value .operation) (z n)
 
 coded-determined : (s : List ℕ) (r q : Code) → CodedWithin s r → CodedWithin s q → codedSeen s r ≡ codedSeen s q → r ≡ q

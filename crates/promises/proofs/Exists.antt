@@ -14,7 +14,7 @@ use Rattle.octets.proofs.ReaderLaws.{sound-inj, through, passed, empty-is, alon
 use Rattle.elements.specs.Element.{element, written}
 use Rattle.codes.specs.Ids.{idOf}
 use Rattle.codes.specs.Problems.{problemTag}
-use Rattle.places.specs.Places.{misplaced, single, parameter, called, coded, rejected}
+use Rattle.places.specs.Places.{misplaced, single, parameter, invokePlaces, coded, rejected}
 use Rattle.parameters.specs.Parameter.{Text, mistyped, ussd}
 use Rattle.parameters.proofs.ParameterLaws.{ussd-held}
 use Rattle.components.specs.Component.{Component, parameterOf, invokeTag, resultTag, rejectTag, invokeOf, resultOf, errorOf, rejectOf}
@@ -50,7 +50,7 @@ module _ (q s : List ℕ) (c : Component) (h : extensible c ≡ true) where
       → (t : List ℕ) × LaterFacility (parameterOf c) q s t
   unfolding invokeOf
   invoke-exists contents i e a b =
-      through (called (i .rest)) _ c b λ g u v.
+      through (invokePlaces (i .rest)) _ c b λ g u v.
       through (parameter (g .rest)) _ c v λ o w z.
       let f = single-local 0x02 contents i a in
       let l = called-local (i .rest) g u in

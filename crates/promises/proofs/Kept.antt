@@ -10,7 +10,7 @@ use lib.Dec.{eqb}
 use Rattle.octets.specs.Unless.{unless}
 use Rattle.codes.specs.Operations.{begins, serves}
 use Rattle.codes.specs.Errors.{listed}
-use Rattle.codes.specs.Problems.{invoke as invokeProblem, result as resultProblem, error as errorProblem}
+use Rattle.codes.specs.Problems.{invokeProblem, resultProblem, errorProblem}
 use Rattle.parameters.specs.Suits.{suits, InvokeReceived, ResultReceived}
 use Rattle.components.specs.Component.{Component, invoke, reject}
 use Rattle.components.specs.Component as component

@@ -15,7 +15,7 @@ use Rattle.codes.specs.Operations.{serves}
 use Rattle.codes.specs.Errors.{listed}
 use Rattle.codes.specs.Problems.{problemTag}
 use Rattle.parameters.specs.Suits.{suits, InvokeReceived, ResultReceived}
-use Rattle.places.specs.Places.{misplaced, octetIn, single, parameter, called, coded, rejected}
+use Rattle.places.specs.Places.{misplaced, octetIn, single, parameter, invokePlaces, coded, rejected}
 use Rattle.components.specs.Component.{Component, invoke, result, error, reject, invokeTag, resultTag, rejectTag, invokeOf, resultOf, errorOf, rejectOf}
 use Rattle.components.specs.Facility.{Finding, empty, shows, general, leftOver, faultyReject, afterTag, component, found, inside, outer, facility}
 use Rattle.table.specs.Table.{Waiting, Entry, entryAt}
@@ -62,8 +62,8 @@ parameter-low : (s : List ℕ) → Faults IsLow (parameter s)
 unfolding parameter
 parameter-low s = cond-faults IsLow (isEmpty s) _ _ tt (then-faults IsLow (alone misplaced (element s)) _ (alone-low s) λ e. tt)
 
-called-low : (s : List ℕ) → Faults IsLow (called s)
-unfolding called
+called-low : (s : List ℕ) → Faults IsLow (invokePlaces s)
+unfolding invokePlaces
 called-low s =
     then-faults IsLow (element s) _ (element-low s) λ e.
     read-faults IsLow (eqb (e .value .tag) 0x80) _ _ (e .rest)
@@ -91,7 +91,7 @@ component-low tag s =
     check-faults IsLow (problemTag (e .tag)) misplaced _ refl (check-faults IsLow (eqb (length (e .contents)) 1) misplaced _ refl tt))
     (then-faults IsLow (single 0x02 s) _ (single-low 0x02 s) λ i.
     cond-faults IsLow (eqb tag invokeTag) _ _
-    (then-faults IsLow (called (i .rest)) _ (called-low (i .rest)) λ c. then-faults IsLow (parameter (c .rest)) _ (parameter-low (c .rest)) λ p. tt)
+    (then-faults IsLow (invokePlaces (i .rest)) _ (called-low (i .rest)) λ c. then-faults IsLow (parameter (c .rest)) _ (parameter-low (c .rest)) λ p. tt)
     (cond-faults IsLow (eqb tag resultTag) _ _
     (cond-faults IsLow (isEmpty (i .rest)) _ _ tt
     (then-faults IsLow (element (i .rest)) _ (element-low (i .rest)) λ e.

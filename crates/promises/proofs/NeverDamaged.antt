@@ -14,7 +14,7 @@ use Rattle.deciding.specs.Steps.{pickedEntry, decide}
 use Rattle.deciding.specs.Seen.{Ready}
 use Rattle.calling.specs.Calls.{Sending, sendBegin as toBegin, sendInvoke as toInvoke, sendResult, sendError, sendRelease}
 use Rattle.telephone.specs.Receive.{act, receive}
-use Rattle.telephone.specs.Calls.{called, noValue, begin, invokeWithin, result, error, release}
+use Rattle.telephone.specs.Calls.{callOutcome, noValue, begin, invokeWithin, result, error, release}
 use Rattle.telephone.proofs.Paths.{entry-fits}
 use Rattle.promises.proofs.Kept.{Holds, decide-holds}
 use Rattle.promises.proofs.Silence.{isLoud, loud-ready}
@@ -35,7 +35,7 @@ act-valid t m b (onReject shown) v r h = valid-with t (pickedEntry m) closed v (
 act-valid t m b (released shown cause) v r h = valid-with t (pickedEntry m) closed v (below-of t (pickedEntry m) (r refl .0) (entry-fits t m (length b) (r refl))) closed-holds
 act-valid t m b (taken e shown) v r h = valid-with t (pickedEntry m) e v (below-of t (pickedEntry m) (r refl .0) (entry-fits t m (length b) (r refl))) (h .0)
 
-called-valid : (t b : List ℕ) (which : Option ℕ) (f : Sending → ℕ) (o : Answer Sending) → valid t ≡ true → Fine t (length b) which o → valid (called t b f o .table) ≡ true
+called-valid : (t b : List ℕ) (which : Option ℕ) (f : Sending → ℕ) (o : Answer Sending) → valid t ≡ true → Fine t (length b) which o → valid (callOutcome t b f o .table) ≡ true
 called-valid t b which f (fault n) v h = v
 called-valid t b which f (sound s) v h = valid-with t (s .entry) (s .becomes) v (h .below) (h .held)
 

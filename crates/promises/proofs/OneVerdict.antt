@@ -11,7 +11,7 @@ use Rattle.octets.specs.Reader.{Answer, fault, sound}
 use Rattle.octets.proofs.ReaderLaws.{through, passed}
 use Rattle.components.specs.Component.{reject}
 use Rattle.components.specs.Written.{componentOctets}
-use Rattle.messages.specs.Layout.{sentFirst, release as released-octets, releaseFacility}
+use Rattle.messages.specs.Layout.{sentFirst, releaseEmpty as released-octets, releaseFacility}
 use Rattle.writing.proofs.WriteLaws.{reject-octets, reject-bound}
 use Rattle.table.specs.Table.{size, closed, named, entryAt, withEntry, valid, lowestClosed, holds}
 use Rattle.table.proofs.TableLaws.{read-written, open-written, others-stay}
@@ -20,7 +20,7 @@ use Rattle.deciding.specs.Steps.{pickedEntry, replyFirst, decide}
 use Rattle.deciding.specs.Seen.{Ready}
 use Rattle.calling.specs.Calls.{Sending, transaction, sendBegin as toBegin, sendInvoke as toInvoke, sendResult, sendError, sendRelease}
 use Rattle.telephone.specs.Receive.{sentBy, act, receive}
-use Rattle.telephone.specs.Calls.{called, noValue, begin, invokeWithin, result, error, release}
+use Rattle.telephone.specs.Calls.{callOutcome, noValue, begin, invokeWithin, result, error, release}
 use Rattle.telephone.proofs.Paths.{entry-fits, fitting-is}
 use Rattle.telephone.proofs.Shown.{some-inj}
 use Rattle.telephone.proofs.OutcomeLaws.{front-is, behind-stays, silent-untouched, others-kept}
@@ -81,7 +81,7 @@ every-message t m b =
     let n = length b in
     each t m b (decide t m n) (decide-says t m n) (decide-tells t m n) (decide-holds t m n) (loud-ready t m n)
 
-called-fine : (t b : List ℕ) (which : Option ℕ) (value : Sending → ℕ) (o : Answer Sending) → Fine t (length b) which o → CallVerdict t b which (called t b value o)
+called-fine : (t b : List ℕ) (which : Option ℕ) (value : Sending → ℕ) (o : Answer Sending) → Fine t (length b) which o → CallVerdict t b which (callOutcome t b value o)
 called-fine t b which value (fault n) h = refused h refl
 called-fine t b which value (sound s) h =
     let l = h .below in
@@ -104,7 +104,7 @@ releases : (t b : List ℕ) (flag value : ℕ) → Releases t b flag value (rele
 unfolding release
 releases t b flag value = go (sendRelease t (length b) flag value) refl (fine-release t (length b) flag value)
   where
-    go : (o : Answer Sending) → sendRelease t (length b) flag value ≡ o → Fine t (length b) (named flag value) o → Releases t b flag value (called t b noValue o)
+    go : (o : Answer Sending) → sendRelease t (length b) flag value ≡ o → Fine t (length b) (named flag value) o → Releases t b flag value (callOutcome t b noValue o)
     go (fault n) e h z = absurd (false≢true (rw z at h))
     go (sound s) e h z =
         let r = release-is t (length b) flag value s e in

@@ -19,7 +19,7 @@ use Rattle.parameters.specs.Suits.{anyOne, isUssd, noneOrOne, noneOrUssd, suits
 use Rattle.places.specs.Places.{misplaced, parameter}
 use Rattle.components.specs.Component.{Component, invoke, error}
 use Rattle.components.specs.Facility.{shows, facility}
-use Rattle.components.specs.Written.{componentOctets, answer, IsParameter, Writable}
+use Rattle.components.specs.Written.{componentOctets, resultFor, IsParameter, Writable}
 use Rattle.components.proofs.ReadBack.{read-back, answer-writable}
 use Rattle.messages.specs.Layout.{registerType, facilityType, sentFirst, register, facilityMessage}
 use Rattle.messages.specs.Scan.{required}
@@ -27,7 +27,7 @@ use Rattle.sending.proofs.SentBack.{register-found, facility-found}
 use Rattle.table.specs.Table.{named, entryAt, valid, lowestClosed}
 use Rattle.judging.specs.StepSix.{among, full, operationOf}
 use Rattle.calling.specs.Calls.{Sending, orRefused, transaction, sendBegin, sendInvoke, sendResult, sendError}
-use Rattle.telephone.specs.Calls.{called, noValue, begin, invokeWithin, result, error as calls-error}
+use Rattle.telephone.specs.Calls.{callOutcome, noValue, begin, invokeWithin, result, error as calls-error}
 use Rattle.telephone.proofs.Paths.{fitting-is}
 use Rattle.telephone.proofs.OutcomeLaws.{front-is}
 use Rattle.telephone.proofs.Shown.{some-inj}
@@ -143,7 +143,7 @@ module _ (t p : List ℕ) (room : ℕ) (id : ℤ) (i : SFits w8 id) (s : Sending
         in-facility (sentFirst flag value) (invoke id none o p) (i, (tt, invoke-parameter o p e₅)) (sym (ap (λ (z : Sending). z .message) (fitting-is room _ s f₅)))
 
     result-laid : sendResult t room flag value id p ≡ sound s → (k : ℕ) → named flag value ≡ some k
-        → Laid (sentFirst flag value) facilityType (s .message) (answer id (operationOf id (entryAt t k .peer)) p)
+        → Laid (sentFirst flag value) facilityType (s .message) (resultFor id (operationOf id (entryAt t k .peer)) p)
     unfolding sendResult
     result-laid e k n =
         passed (valid t) 28 _ s e λ e₁ f₁.
@@ -152,7 +152,7 @@ module _ (t p : List ℕ) (room : ℕ) (id : ℤ) (i : SFits w8 id) (s : Sending
         passed (suits ResultWritten (operationOf id (entryAt t j .peer)) p) 25 _ s f₃ λ e₄ f₄.
         let m = sym (ap (λ (x : Sending). x .message) (fitting-is room _ s f₄)) in
         let k-is : j ≡ k = some-inj (sym (transaction-is t flag value j e₂) ∙ n) in
-        subst (λ (l : ℕ). Laid (sentFirst flag value) facilityType (s .message) (answer id (operationOf id (entryAt t l .peer)) p)) k-is
+        subst (λ (l : ℕ). Laid (sentFirst flag value) facilityType (s .message) (resultFor id (operationOf id (entryAt t l .peer)) p)) k-is
         (in-facility (sentFirst flag value) _ (answer-writable id (operationOf id (entryAt t j .peer)) p i (result-parameter (operationOf id (entryAt t j .peer)) p e₄)) m)
 
     error-laid : (code : ℕ) → sendError t room flag value id code p ≡ sound s → Laid (sentFirst flag value) facilityType (s .message) (error id code p)
@@ -167,11 +167,11 @@ module _ (t p : List ℕ) (room : ℕ) (id : ℤ) (i : SFits w8 id) (s : Sending
 
 -- a call that succeeds leaves its message at the front of the buffer
 module _ (t b : List ℕ) (which : Option ℕ) (value : Sending → ℕ) where
-  carried : {C : Type 0} (o : Answer Sending) → Fine t (length b) which o → called t b value o .code ≡ 0 → ((s : Sending) → o ≡ sound s → C) → C
+  carried : {C : Type 0} (o : Answer Sending) → Fine t (length b) which o → callOutcome t b value o .code ≡ 0 → ((s : Sending) → o ≡ sound s → C) → C
   carried (fault n) h z next = absurd (false≢true (rw z at h))
   carried (sound s) h z next = next s refl
 
-  at-front : (first type : ℕ) (o : Answer Sending) (s : Sending) (c : Component) → o ≡ sound s → Laid first type (s .message) c → Carries first type (called t b value o) c
+  at-front : (first type : ℕ) (o : Answer Sending) (s : Sending) (c : Component) → o ≡ sound s → Laid first type (s .message) c → Carries first type (callOutcome t b value o) c
   at-front first type o s c e l = rw e (record { body = l .body; front = front-is b (s .message) ∙ l .is; behind = l .behind; found = l .found; back = l .back })
 
 component-reads-back : ComponentReadsBack
@@ -182,7 +182,7 @@ unfolding begin invokeWithin result calls-error
 call-reads-back t b p flag value operation code id i =
     let n = length b in (
       (λ z. carried t b (lowestClosed t) (λ s. s .entry) (sendBegin t n operation id p) (fine-begin t n operation id p) z λ s e.
-          subst (λ (o : Answer Sending). Carries (sentFirst 1 (called t b (λ x. x .entry) o .value)) registerType (called t b (λ x. x .entry) o) (invoke id none operation p)) (sym e)
+          subst (λ (o : Answer Sending). Carries (sentFirst 1 (callOutcome t b (λ x. x .entry) o .value)) registerType (callOutcome t b (λ x. x .entry) o) (invoke id none operation p)) (sym e)
           (at-front t b (lowestClosed t) (λ x. x .entry) _ registerType (sound s) s _ refl (begin-laid t p n id i s operation e))),
       (
         (λ z. carried t b (named flag value) noValue (sendInvoke t n flag value operation id p) (fine-invoke t n flag value operation id p) z λ s e.

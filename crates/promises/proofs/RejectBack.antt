@@ -19,15 +19,14 @@ use Rattle.octets.proofs.ReaderLaws.{sound-inj, through, passed, rest-octets, o
 use Rattle.elements.specs.Element.{Element, missing, unreadable, refusedTag, lengthOf, element}
 use Rattle.elements.proofs.ElementLaws.{length-local}
 use Rattle.codes.specs.Ids.{idOf}
-use Rattle.codes.specs.Problems.{problemTag}
-use Rattle.places.specs.Places.{misplaced, single}
+use Rattle.codes.specs.Problems.{invokeProblem, problemTag}
+use Rattle.places.specs.Places.{misplaced, single, invokePlaces, coded, rejected, parameter}
 use Rattle.components.specs.Component.{Component, invoke, result, error, reject, rejectTag, invokeTag, resultTag, invokeOf, resultOf, errorOf, rejectOf}
 use Rattle.components.specs.Facility.{Finding, empty, shows, general, leftOver, faultyReject, idRead, found, afterTag, component, inside, outer, facility}
 use Rattle.components.specs.Written.{IsSomeId, componentOctets}
 use Rattle.components.proofs.ReadBack.{read-back}
 use Rattle.codes.specs.Operations.{serves}
 use Rattle.codes.specs.Errors.{listed}
-use Rattle.codes.specs.Problems.{invoke as invokeProblem}
 use Rattle.parameters.specs.Suits.{suits, InvokeReceived, ResultReceived}
 use Rattle.messages.specs.Layout.{registerType, mandatoryMissing, mandatory, releaseFacility}
 use Rattle.messages.specs.Scan.{clear, required}
@@ -42,7 +41,6 @@ use Rattle.telephone.proofs.OutcomeLaws.{front-is}
 use Rattle.promises.specs.ReadBack.{CarriesReject, RejectReadsBack}
 use Rattle.promises.proofs.Silence.{Says, decide-says}
 use Rattle.promises.proofs.Walk.{walk}
-use Rattle.places.specs.Places.{called, coded, rejected, parameter}
 
 -- the first octet of octets
 first-octet : (s : List ℕ) → Octets s → getD s 0 0 < 256
@@ -110,7 +108,7 @@ cond-id false x y h k = k
 after-id : (tag : ℕ) (id : ℤ) (s : List ℕ) → SFits w8 id → AnswerHasId (afterTag tag id s)
 unfolding afterTag invokeOf resultOf errorOf
 after-id tag id s h =
-    cond-id (eqb tag invokeTag) _ _ (then-id (called s) _ λ c. then-id (parameter (c .rest)) _ λ p. h)
+    cond-id (eqb tag invokeTag) _ _ (then-id (invokePlaces s) _ λ c. then-id (parameter (c .rest)) _ λ p. h)
     (cond-id (eqb tag resultTag) _ _
     (cond-id (isEmpty s) _ _ h (then-id (element s) _ λ e. check-id (eqb (e .value .tag) 0x30) misplaced _ (then-id (coded (e .value .contents)) _ λ c. check-id (isEmpty (e .rest)) misplaced _ h)))
     (then-id (coded s) _ λ c. h))

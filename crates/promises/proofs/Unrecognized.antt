@@ -8,7 +8,7 @@ use lib.IntN.{ℤ}
 use lib.ListN.{length, drop}
 use borrow.Author.Tests.{le-leb, eq-eqb, ne-eqb}
 use Rattle.codes.specs.Operations.{serves}
-use Rattle.codes.specs.Problems.{invoke as invokeProblem}
+use Rattle.codes.specs.Problems.{invokeProblem}
 use Rattle.messages.specs.Layout.{discriminator, value}
 use Rattle.table.specs.Table.{Entry, entryAt}
 use Rattle.judging.specs.StepSix.{problem, among, full, judgeInvoke}

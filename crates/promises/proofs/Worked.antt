@@ -3,7 +3,7 @@ use mathlib.Core.Path.{_≡_, refl}
 use lib.ListN.{length}
 use Rattle.calling.specs.Calls.{transaction as calling-transaction, fitting as calling-fitting, sendBegin as calling-begin, sendResult as calling-sendResult}
 use Rattle.codes.specs.Errors.{listed as codes-listed}
-use Rattle.components.specs.Written.{contents as components-contents, answer as components-answer}
+use Rattle.components.specs.Written.{contents as components-contents, resultFor as components-answer}
 use Rattle.components.specs.Component.{invokeOf as components-invokeOf, resultOf as components-resultOf, errorOf as components-errorOf, rejectOf as components-rejectOf}
 use Rattle.components.specs.Facility.{afterTag as components-afterTag, component as components-component, inside as components-inside, facility as components-facility}
 use Rattle.deciding.specs.Steps.{stepSix as deciding-stepSix, fiveAndSix as deciding-fiveAndSix, fourToSix as deciding-fourToSix, onRelease as deciding-onRelease, pickedEntry as deciding-pickedEntry, replyFirst as deciding-replyFirst, decide as deciding-decide}
@@ -14,7 +14,7 @@ use Rattle.messages.specs.Scan.{information as messages-information, clearOf as
 use Rattle.octets.specs.Splice.{splice as octets-splice}
 use Rattle.parameters.specs.Suits.{suitsInvokeReceived as parameters-suitsInvokeReceived, suitsResultReceived as parameters-suitsResultReceived, suitsInvokeWritten as parameters-suitsInvokeWritten, suitsResultWritten as parameters-suitsResultWritten, suits as parameters-suits}
 use Rattle.parameters.specs.Parameter.{string as parameters-string, text as parameters-text, ussdContents as parameters-ussdContents, ussd as parameters-ussd, ssForBsContents as parameters-ssForBsContents}
-use Rattle.places.specs.Places.{single as places-single, parameter as places-parameter, called as places-called, coded as places-coded, rejected as places-rejected}
+use Rattle.places.specs.Places.{single as places-single, parameter as places-parameter, invokePlaces as places-called, coded as places-coded, rejected as places-rejected}
 use Rattle.components.specs.Texts.{textOf as components-textOf}
 use Rattle.table.specs.Table.{entryOf as table-entryOf, soundImage as table-soundImage, entryAt as table-entryAt, soundEntries as table-soundEntries, valid as table-valid, stateOf as table-stateOf, entryOctets as table-entryOctets, withEntry as table-withEntry, lowestFrom as table-lowestFrom, lowestClosed as table-lowestClosed}
 use Rattle.telephone.specs.Receive.{act as telephone-act, receive as telephone-receive}

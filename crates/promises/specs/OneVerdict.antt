@@ -9,10 +9,10 @@ use mathlib.Core.Option.{Option, none, some}
 use lib.IntN.{ℤ}
 use lib.ListN.{length, take, drop}
 use lib.Dec.{leb, eqb}
-use Rattle.codes.specs.Problems.{general, invoke, result, error}
+use Rattle.codes.specs.Problems.{generalProblem, invokeProblem, resultProblem, errorProblem}
 use Rattle.components.specs.Component.{reject}
 use Rattle.components.specs.Written.{componentOctets}
-use Rattle.messages.specs.Layout.{sentFirst, release, releaseCause, releaseFacility}
+use Rattle.messages.specs.Layout.{sentFirst, releaseEmpty, releaseCause, releaseFacility}
 use Rattle.table.specs.Table.{entryAt, closed, named, lowestClosed}
 use Rattle.deciding.specs.Steps.{pickedEntry, replyFirst}
 use Rattle.telephone.specs.Outcome.{Outcome, untouched}
@@ -43,9 +43,9 @@ sendsNothing code = eqb code 1 || eqb code 6 || eqb code 7 || eqb code 27 || eqb
 -- 2; invoke 0 to 3 and 5 to 7; result and error 0 and 2
 abbrev pub isProblem : ℕ → ℕ → Bool
 isProblem tag number =
-    (eqb tag general && leb number 2)
-    || (eqb tag invoke && (leb number 3 || (leb 5 number && leb number 7)))
-    || ((eqb tag result || eqb tag error) && (eqb number 0 || eqb number 2))
+    (eqb tag generalProblem && leb number 2)
+    || (eqb tag invokeProblem && (leb number 3 || (leb 5 number && leb number 7)))
+    || ((eqb tag resultProblem || eqb tag errorProblem) && (eqb number 0 || eqb number 2))
 
 -- and the causes of steps 2 to 5
 abbrev pub isCause : ℕ → Bool
@@ -57,7 +57,7 @@ pub data Verdict (t m b : List ℕ) (o : Outcome) : Type 0 where
   withCause : o .code ≡ 2 → (number : ℕ) → isCause number ≡ true → Writes b (releaseCause (replyFirst m) number) o → Closes t (pickedEntry m) o → o .shown ≡ none → Verdict t m b o
   withReject : o .code ≡ 3 → (id : Option ℤ) (tag number : ℕ) → isProblem tag number ≡ true → Writes b (releaseFacility (replyFirst m) (componentOctets (reject id tag number))) o → Closes t (pickedEntry m) o
       → o .shown ≡ none → Verdict t m b o
-  onReject : o .code ≡ 4 → Writes b (release (replyFirst m)) o → Closes t (pickedEntry m) o → Verdict t m b o
+  onReject : o .code ≡ 4 → Writes b (releaseEmpty (replyFirst m)) o → Closes t (pickedEntry m) o → Verdict t m b o
   released : o .code ≡ 5 → Writes b [] o → Closes t (pickedEntry m) o → Verdict t m b o
   taken : o .code ≡ 0 → Writes b [] o → ChangesOnly t (pickedEntry m) o → entryAt (o .table) (pickedEntry m) .isOpen ≡ true → Verdict t m b o
 
@@ -75,7 +75,7 @@ pub data CallVerdict (t b : List ℕ) (names : Option ℕ) (o : Outcome) : Type 
 
 -- a release that succeeds sends the two octets of RELEASE COMPLETE and closes its entry
 abbrev pub Releases : List ℕ → List ℕ → ℕ → ℕ → Outcome → Type 0
-Releases t b flag value o = o .code ≡ 0 → Writes b (release (sentFirst flag value)) o × ((k : ℕ) → named flag value ≡ some k → Closes t k o)
+Releases t b flag value o = o .code ≡ 0 → Writes b (releaseEmpty (sentFirst flag value)) o × ((k : ℕ) → named flag value ≡ some k → Closes t k o)
 
 -- begin names the lowest closed own value, the others a transaction by its flag and value
 abbrev pub EveryCall : Type 0

@@ -12,7 +12,7 @@ use Rattle.octets.specs.Octets.{Octets}
 use Rattle.octets.specs.Reader.{took}
 use Rattle.components.specs.Component.{Component, invoke, error, reject}
 use Rattle.components.specs.Facility.{shows, facility}
-use Rattle.components.specs.Written.{componentOctets, answer, Writable}
+use Rattle.components.specs.Written.{componentOctets, resultFor, Writable}
 use Rattle.messages.specs.Layout.{sentFirst, registerType, facilityType, releaseType}
 use Rattle.messages.specs.Scan.{required, firstWhole}
 use Rattle.table.specs.Table.{named, entryAt}
@@ -47,7 +47,7 @@ CallReadsBack =
     × ((calls.invokeWithin t b flag value operation id p .code ≡ 0
     → Carries (sentFirst flag value) facilityType (calls.invokeWithin t b flag value operation id p) (invoke id none operation p))
     × ((calls.result t b flag value id p .code ≡ 0 → (k : ℕ) → named flag value ≡ some k
-    → Carries (sentFirst flag value) facilityType (calls.result t b flag value id p) (answer id (operationOf id (entryAt t k .peer)) p))
+    → Carries (sentFirst flag value) facilityType (calls.result t b flag value id p) (resultFor id (operationOf id (entryAt t k .peer)) p))
     × (calls.error t b flag value id code p .code ≡ 0 → Carries (sentFirst flag value) facilityType (calls.error t b flag value id code p) (error id code p))))
 
 -- a release with a Reject, which is found under 1C and shows its id and problem

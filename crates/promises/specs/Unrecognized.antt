@@ -10,7 +10,7 @@ use lib.ListN.{length, getD, drop}
 use Rattle.octets.specs.Reader.{took}
 use Rattle.octets.specs.Splice.{splice}
 use Rattle.codes.specs.Operations.{serves}
-use Rattle.codes.specs.Problems.{invoke as invokeProblem}
+use Rattle.codes.specs.Problems.{invokeProblem}
 use Rattle.components.specs.Component.{invoke, reject}
 use Rattle.components.specs.Facility.{shows, facility}
 use Rattle.components.specs.Written.{componentOctets}

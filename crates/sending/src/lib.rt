@@ -7,8 +7,8 @@ ghost use lib.ListN.{length};
 ghost use Rattle.octets.specs.Splice.{splice};
 ghost use Rattle.places.specs.Seen.{idSeen};
 ghost use Rattle.components.specs.Component.{invoke, error, reject};
-ghost use Rattle.components.specs.Written.{componentOctets, answer, codedLength, answerLength};
-ghost use Rattle.messages.specs.Layout.{register, facilityMessage, release, releaseCause, releaseFacility};
+ghost use Rattle.components.specs.Written.{componentOctets, resultFor, codedLength, resultLength};
+ghost use Rattle.messages.specs.Layout.{register, facilityMessage, releaseEmpty, releaseCause, releaseFacility};
 
 // A REGISTER around an Invoke with a parameter of so many octets.
 pub fn register_length(n: usize) -> usize
@@ -29,15 +29,15 @@ pub fn facility_length(n: usize) -> usize
 // A FACILITY around a Return result.
 pub fn facility_answer_length(n: usize) -> usize
     requires { ⌜ n ≤ 255 ⌝ }
-    ensures { λ r. ⌜ r ≡ 3 + answerLength n ⌝ }
+    ensures { λ r. ⌜ r ≡ 3 + resultLength n ⌝ }
 {
     3 + writing::answer_length(n)
 }
 
 pub fn put_release(buf: &mut [u8], first: u8) -> usize
     requires { ⌜ 2 ≤ length (now buf) ⌝ }
-    ensures writes { λ _. ⌜ now (buf .exit) ≡ splice (now (buf .entry)) 0 (release first) ⌝ }
-    ensures next { λ r. ⌜ r ≡ length (release first) ⌝ }
+    ensures writes { λ _. ⌜ now (buf .exit) ≡ splice (now (buf .entry)) 0 (releaseEmpty first) ⌝ }
+    ensures next { λ r. ⌜ r ≡ length (releaseEmpty first) ⌝ }
 {
     let message = [first, 0x2A];
     octets::put(buf, 0, &message);
@@ -103,9 +103,9 @@ pub fn put_error(buf: &mut [u8], first: u8, id: i8, code: u8, p: &[u8]) -> usize
 
 // A FACILITY with a Return result.
 pub fn put_answer(buf: &mut [u8], first: u8, id: i8, operation: u8, p: &[u8]) -> usize
-    requires { ⌜ (length (now p) ≤ 255) × ((3 + answerLength (length (now p)) ≤ 255) × (3 + answerLength (length (now p)) ≤ length (now buf))) ⌝ }
-    ensures writes { λ _. ⌜ now (buf .exit) ≡ splice (now (buf .entry)) 0 (facilityMessage first (componentOctets (answer id operation (now (p .entry))))) ⌝ }
-    ensures next { λ r. ⌜ r ≡ length (facilityMessage first (componentOctets (answer id operation (now (p .entry))))) ⌝ }
+    requires { ⌜ (length (now p) ≤ 255) × ((3 + resultLength (length (now p)) ≤ 255) × (3 + resultLength (length (now p)) ≤ length (now buf))) ⌝ }
+    ensures writes { λ _. ⌜ now (buf .exit) ≡ splice (now (buf .entry)) 0 (facilityMessage first (componentOctets (resultFor id operation (now (p .entry))))) ⌝ }
+    ensures next { λ r. ⌜ r ≡ length (facilityMessage first (componentOctets (resultFor id operation (now (p .entry))))) ⌝ }
 {
     let head = [first, 0x3A, writing::answer_length(p.len()) as u8];
     octets::put(buf, 0, &head);

@@ -16,7 +16,7 @@ use Rattle.deciding.specs.Steps.{pickedEntry}
 use Rattle.calling.specs.Calls.{Sending}
 use Rattle.telephone.specs.Outcome.{untouched}
 use Rattle.telephone.specs.Receive.{sentBy, act}
-use Rattle.telephone.specs.Calls.{called}
+use Rattle.telephone.specs.Calls.{callOutcome}
 use Rattle.telephone.proofs.Paths.{splice-none}
 
 -- a message written at the front: it stands there, and what stood behind it stays
@@ -51,14 +51,14 @@ module _ (t m b : List ℕ) where
   others-kept (taken entry shown) j h n = others-stay t j (pickedEntry m) _ h n
 
 module _ (t b : List ℕ) (value : Sending → ℕ) where
-  pub call-refused : (n : ℕ) → called t b value (fault n) ≡ untouched t b n
+  pub call-refused : (n : ℕ) → callOutcome t b value (fault n) ≡ untouched t b n
   call-refused n = refl
 
-  pub message-is : (s : Sending) → take (called t b value (sound s) .written) (called t b value (sound s) .buffer) ≡ s .message
+  pub message-is : (s : Sending) → take (callOutcome t b value (sound s) .written) (callOutcome t b value (sound s) .buffer) ≡ s .message
   message-is s = front-is b (s .message)
 
-  pub message-behind : (s : Sending) → drop (called t b value (sound s) .written) (called t b value (sound s) .buffer) ≡ drop (length (s .message)) b
+  pub message-behind : (s : Sending) → drop (callOutcome t b value (sound s) .written) (callOutcome t b value (sound s) .buffer) ≡ drop (length (s .message)) b
   message-behind s = behind-stays b (s .message)
 
-  pub call-others : (s : Sending) (j : ℕ) → size * s .entry + size ≤ length t → (j ≡ s .entry → ⊥) → entryAt (called t b value (sound s) .table) j ≡ entryAt t j
+  pub call-others : (s : Sending) (j : ℕ) → size * s .entry + size ≤ length t → (j ≡ s .entry → ⊥) → entryAt (callOutcome t b value (sound s) .table) j ≡ entryAt t j
   call-others s j h n = others-stay t j (s .entry) (s .becomes) h n

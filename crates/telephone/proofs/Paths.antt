@@ -15,7 +15,7 @@ use Rattle.octets.proofs.ReaderLaws.{sound-inj, through, passed}
 use Rattle.codes.specs.Operations.{begins}
 use Rattle.parameters.specs.Suits.{suits, InvokeWritten}
 use Rattle.components.specs.Component.{invoke, error}
-use Rattle.components.specs.Written.{componentOctets, answer, codedLength, answerLength}
+use Rattle.components.specs.Written.{componentOctets, resultFor, codedLength, resultLength}
 use Rattle.messages.specs.Layout.{flag, value, register, facilityMessage}
 use Rattle.octets.specs.Seen.{partFound, PartWithin}
 use Rattle.octets.specs.declared.MaybePart.{MaybePart}
@@ -31,7 +31,7 @@ use Rattle.deciding.specs.declared.Told.{Told}
 use Rattle.deciding.specs.declared.Act.{Act}
 use Rattle.deciding.specs.declared.Decision.{Decision as Made}
 use Rattle.telephone.specs.Receive.{verdictOf, sentBy, tableBy, causeBy, act}
-use Rattle.telephone.specs.Calls.{called}
+use Rattle.telephone.specs.Calls.{callOutcome}
 use Rattle.telephone.specs.FromC.{shownAs, receivedOf, withoutCause, ActedAs, calledOf}
 use Rattle.telephone.specs.declared.receive.Acted.{Acted}
 use Rattle.telephone.specs.declared.receive.Received.{Received}
@@ -108,14 +108,14 @@ module _ (t m b : List ℕ) where
 -- a call: refused, or sent
 module _ (t b : List ℕ) (value : Sending → ℕ) where
   pub refused-as : (o : Answer Sending) (n : ℕ) → fault n ≡ o
-      → (record { code = n; value = 0; written = 0 } ≡ calledOf (called t b value o)) × ((b ≡ called t b value o .buffer) × (t ≡ called t b value o .table))
+      → (record { code = n; value = 0; written = 0 } ≡ calledOf (callOutcome t b value o)) × ((b ≡ callOutcome t b value o .buffer) × (t ≡ callOutcome t b value o .table))
   refused-as o n e = rw (← e) (refl, (refl, refl))
 
   pub sent-as : (o : Answer Sending) (s : Sending) (v w : ℕ) (b′ t′ : List ℕ) → sound s ≡ o → v ≡ value s → w ≡ length (s .message)
       → b′ ≡ splice b 0 (s .message) → t′ ≡ withEntry t (s .entry) (s .becomes)
-      → (record { code = 0; value = v; written = w } ≡ calledOf (called t b value o)) × ((b′ ≡ called t b value o .buffer) × (t′ ≡ called t b value o .table))
+      → (record { code = 0; value = v; written = w } ≡ calledOf (callOutcome t b value o)) × ((b′ ≡ callOutcome t b value o .buffer) × (t′ ≡ callOutcome t b value o .table))
   sent-as o s v w b′ t′ e x l f g =
-      let z : record { code = 0; value = v; written = w } ≡ calledOf (called t b value (sound s)) = λ i. record { code = 0; value = x i; written = l i } in
+      let z : record { code = 0; value = v; written = w } ≡ calledOf (callOutcome t b value (sound s)) = λ i. record { code = 0; value = x i; written = l i } in
       rw (← e) (z, (f, g))
 
 named-value : (o : Option ℕ) (v : ℕ) → orRefused 21 o ≡ sound v → o ≡ some v
@@ -139,7 +139,7 @@ begin-value t room o id p s e =
     let k = lowest-closed-is t v (named-value (lowestClosed t) v e₃) .0 in
     omega arith
 
-answer-least : (n : ℕ) → n ≤ 3 + answerLength n
+answer-least : (n : ℕ) → n ≤ 3 + resultLength n
 answer-least zero = omega arith
 answer-least (suc n) = let e : eqb (suc n) 0 ≡ false = ne-eqb (suc n) 0 (λ z. absurd (omega arith)) in rw e (omega arith)
 
@@ -157,11 +157,11 @@ module _ (first : ℕ) (id : ℤ) (o : ℕ) (p : List ℕ) (room : ℕ) where
       → (length p ≤ 255) × ((3 + codedLength (length p) ≤ 255) × (3 + codedLength (length p) ≤ room))
   error-room h k = let e = facility-error first id o p in (omega arith, (omega arith, omega arith))
 
-  pub answer-room : length (facilityMessage first (componentOctets (answer id o p))) ≤ 255 → length (facilityMessage first (componentOctets (answer id o p))) ≤ room
-      → (length p ≤ 255) × ((3 + answerLength (length p) ≤ 255) × (3 + answerLength (length p) ≤ room))
+  pub answer-room : length (facilityMessage first (componentOctets (resultFor id o p))) ≤ 255 → length (facilityMessage first (componentOctets (resultFor id o p))) ≤ room
+      → (length p ≤ 255) × ((3 + resultLength (length p) ≤ 255) × (3 + resultLength (length p) ≤ room))
   answer-room h k =
       let e = facility-answer first id o p in
-      let x : 3 + answerLength (length p) ≤ 255 = rw (← e) h in
-      let y : 3 + answerLength (length p) ≤ room = rw (← e) k in
+      let x : 3 + resultLength (length p) ≤ 255 = rw (← e) h in
+      let y : 3 + resultLength (length p) ≤ room = rw (← e) k in
       let l = answer-least (length p) in
       (omega arith, (x, y))

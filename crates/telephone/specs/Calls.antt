@@ -12,9 +12,9 @@ use Rattle.calling.specs.Calls as calls
 use Rattle.telephone.specs.Outcome.{Outcome, untouched}
 
 -- "Success returns 0, the message's length and, for begin, the value taken."
-abbrev pub called : List ℕ → List ℕ → (Sending → ℕ) → Answer Sending → Outcome
-called table buffer value (fault number) = untouched table buffer number
-called table buffer value (sound s) =
+abbrev pub callOutcome : List ℕ → List ℕ → (Sending → ℕ) → Answer Sending → Outcome
+callOutcome table buffer value (fault number) = untouched table buffer number
+callOutcome table buffer value (sound s) =
     record {
       code = 0;
       written = length (s .message);
@@ -30,16 +30,16 @@ noValue s = 0
 
 -- our values are 0 to 6, and so are the numbers of their entries
 unfoldable pub begin : List ℕ → List ℕ → ℕ → ℤ → List ℕ → Outcome
-begin table buffer operation id p = called table buffer (λ s. s .entry) (calls.sendBegin table (length buffer) operation id p)
+begin table buffer operation id p = callOutcome table buffer (λ s. s .entry) (calls.sendBegin table (length buffer) operation id p)
 
 unfoldable pub invokeWithin : List ℕ → List ℕ → ℕ → ℕ → ℕ → ℤ → List ℕ → Outcome
-invokeWithin table buffer flag value operation id p = called table buffer noValue (calls.sendInvoke table (length buffer) flag value operation id p)
+invokeWithin table buffer flag value operation id p = callOutcome table buffer noValue (calls.sendInvoke table (length buffer) flag value operation id p)
 
 unfoldable pub result : List ℕ → List ℕ → ℕ → ℕ → ℤ → List ℕ → Outcome
-result table buffer flag value id p = called table buffer noValue (calls.sendResult table (length buffer) flag value id p)
+result table buffer flag value id p = callOutcome table buffer noValue (calls.sendResult table (length buffer) flag value id p)
 
 unfoldable pub error : List ℕ → List ℕ → ℕ → ℕ → ℤ → ℕ → List ℕ → Outcome
-error table buffer flag value id code p = called table buffer noValue (calls.sendError table (length buffer) flag value id code p)
+error table buffer flag value id code p = callOutcome table buffer noValue (calls.sendError table (length buffer) flag value id code p)
 
 unfoldable pub release : List ℕ → List ℕ → ℕ → ℕ → Outcome
-release table buffer flag value = called table buffer noValue (calls.sendRelease table (length buffer) flag value)
+release table buffer flag value = callOutcome table buffer noValue (calls.sendRelease table (length buffer) flag value)

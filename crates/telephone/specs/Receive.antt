@@ -7,7 +7,7 @@ use Rattle.octets.specs.Reader.{Taken}
 use Rattle.octets.specs.Splice.{splice}
 use Rattle.components.specs.Component.{reject}
 use Rattle.components.specs.Written.{componentOctets}
-use Rattle.messages.specs.Layout.{release, releaseCause, releaseFacility}
+use Rattle.messages.specs.Layout.{releaseEmpty, releaseCause, releaseFacility}
 use Rattle.table.specs.Table.{closed, withEntry}
 use Rattle.deciding.specs.Decision.{Decision, silent, withCause, withReject, onReject, released, taken, shownBy}
 use Rattle.deciding.specs.Steps.{pickedEntry, replyFirst, decide}
@@ -27,7 +27,7 @@ abbrev pub sentBy : List ℕ → Decision → List ℕ
 sentBy m (silent code) = []
 sentBy m (withCause number) = releaseCause (replyFirst m) number
 sentBy m (withReject id tag number) = releaseFacility (replyFirst m) (componentOctets (reject id tag number))
-sentBy m (onReject shown) = release (replyFirst m)
+sentBy m (onReject shown) = releaseEmpty (replyFirst m)
 sentBy m (released shown cause) = []
 sentBy m (taken entry shown) = []
 

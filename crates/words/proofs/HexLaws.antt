@@ -12,7 +12,7 @@ use lib.Seq.{drop-cons, take-suc-set, append-snoc, drop-set-lt, paste-zero}
 use borrow.Author.Tests.{eq-eqb, ne-eqb}
 use Rattle.octets.specs.Splice.{splice}
 use Rattle.words.specs.Words.{blank}
-use Rattle.words.specs.Hex.{digitOf, Octets, stop, before, hexFrom, hex, ReadsHex}
+use Rattle.words.specs.Hex.{digitOf, HexOctets, stop, before, hexFrom, hex, ReadsHex}
 use Rattle.words.specs.declared.Ending.{Ending}
 use Rattle.words.specs.declared.Ending.the-variants.{Whole, Wrong, Long}
 
@@ -73,7 +73,7 @@ splice-set b n o x h =
     rw (add-one n, take-suc-set b n o h, append-snoc, drop-set-lt (suc n + length x) b n o (omega arith), e)
 
 -- n octets stand in the buffer, and with those to come it is what it has to be
-abbrev pub Coming : List ℕ → Octets → List ℕ → ℕ → Octets → Type 0
+abbrev pub Coming : List ℕ → HexOctets → List ℕ → ℕ → HexOctets → Type 0
 Coming first whole b n rest =
     (n ≤ length first)
     × (length b ≡ length first)
@@ -81,13 +81,13 @@ Coming first whole b n rest =
     × (n + length (rest .octets) ≡ length (whole .octets))
     × (rest .ends ≡ whole .ends)
 
-module _ (first : List ℕ) (whole : Octets) (b : List ℕ) (n : ℕ) where
+module _ (first : List ℕ) (whole : HexOctets) (b : List ℕ) (n : ℕ) where
   pub coming-none : (e : Ending) → Coming first whole b n (stop e)
       → (n ≡ length (whole .octets)) × ((e ≡ whole .ends) × ((b ≡ splice first 0 (whole .octets)) × (n ≤ length first)))
   unfolding splice
   coming-none e l = (omega (arith, l .3), (l .4, (paste-zero b n [] ∙ l .2, l .0)))
 
-  pub coming-next : (o : ℕ) (rest : Octets) → n < length first → Coming first whole b n (before o rest) → Coming first whole (set b n o) (n + 1) rest
+  pub coming-next : (o : ℕ) (rest : HexOctets) → n < length first → Coming first whole b n (before o rest) → Coming first whole (set b n o) (n + 1) rest
   coming-next o rest h l =
       (omega arith, length-set b n o ∙ l .1, splice-set b n o (rest .octets) (omega (arith, l .1)) ∙ l .2, omega (arith, l .3), l .4)
 
@@ -102,11 +102,11 @@ reading-starts t first = rw (sub-zero (length first)) (omega arith, (omega arith
 module _ (t first b : List ℕ) (n half i : ℕ) (r : Reading t first b n half i) where
   pub reading-stops : (e : Ending) → hexFrom (length first - n) half (drop i t) ≡ stop e
       → ReadsHex t first b (record { count = n; ends = e })
-  reading-stops e p = coming-none first (hex (length first) t) b n e (subst (λ (o : Octets). Coming first (hex (length first) t) b n o) p (r .1))
+  reading-stops e p = coming-none first (hex (length first) t) b n e (subst (λ (o : HexOctets). Coming first (hex (length first) t) b n o) p (r .1))
 
   -- a turn that stores nothing
   pub reading-on : (next : ℕ) → next ≤ 16 → hexFrom (length first - n) half (drop i t) ≡ hexFrom (length first - n) next (drop (i + 1) t) → Reading t first b n next (i + 1)
-  reading-on next h p = (h, subst (λ (o : Octets). Coming first (hex (length first) t) b n o) p (r .1))
+  reading-on next h p = (h, subst (λ (o : HexOctets). Coming first (hex (length first) t) b n o) p (r .1))
 
   -- a turn that stores an octet
   pub reading-stores : (o : ℕ) → n < length first
@@ -115,7 +115,7 @@ module _ (t first b : List ℕ) (n half i : ℕ) (r : Reading t first b n half i
       let e : length first - (n + 1) ≡ length first - n - 1 = omega arith in (
         omega arith,
         rw e (coming-next first (hex (length first) t) b n o (hexFrom (length first - n - 1) 16 (drop (i + 1) t)) h
-            (subst (λ (x : Octets). Coming first (hex (length first) t) b n x) p (r .1))),
+            (subst (λ (x : HexOctets). Coming first (hex (length first) t) b n x) p (r .1))),
       )
 
 pub reading-same : (t first : List ℕ) {b b′ : List ℕ} {n n′ half half′ : ℕ} (i : ℕ) → b′ ≡ b → n′ ≡ n → half′ ≡ half → Reading t first b n half i → Reading t first b′ n′ half′ i

@@ -23,18 +23,18 @@ abbrev pub ReadsDigit : ℕ → ℕ → Type 0
 ReadsDigit c digit = (digit ≡ digitOf c) × (digit ≤ 16)
 
 -- the octets up to the end, or up to the first fault
-pub record Octets : Type 0 where
+pub record HexOctets : Type 0 where
   pub octets : List ℕ
   pub ends : Ending
 
-abbrev pub stop : Ending → Octets
+abbrev pub stop : Ending → HexOctets
 stop h = record { octets = []; ends = h }
 
-abbrev pub before : ℕ → Octets → Octets
+abbrev pub before : ℕ → HexOctets → HexOctets
 before octet o = record { octets = octet ∷ o .octets; ends = o .ends }
 
 -- room for so many octets more; half is the digit that waits for its second, 16 if none does
-unfoldable pub hexFrom : ℕ → ℕ → List ℕ → Octets
+unfoldable pub hexFrom : ℕ → ℕ → List ℕ → HexOctets
 hexFrom room half [] = cond (eqb half 16) (stop Whole) (stop Wrong)
 hexFrom room half (c ∷ s) =
     cond (blank c)
@@ -44,7 +44,7 @@ hexFrom room half (c ∷ s) =
     (cond (eqb room 0) (stop Long)
     (before (half * 16 + digitOf c) (hexFrom (room - 1) 16 s)))))
 
-unfoldable pub hex : ℕ → List ℕ → Octets
+unfoldable pub hex : ℕ → List ℕ → HexOctets
 hex room text = hexFrom room 16 text
 
 -- What is promised of octets that are read into a buffer: how many they are, how they end, and that they stand at its front.

@@ -46,17 +46,17 @@ signed (c ∷ s) = cond (eqb c 45) (negative (number 128 s)) (number 127 (c ∷ 
 abbrev pub ReadsSigned : List ℕ → Number → Type 0
 ReadsSigned word r = (r ≡ signed word) × AtMost 255 r
 
-abbrev pub octetIn : ℕ → Number → OctetAt
-octetIn next Nothing = NoOctet
-octetIn next (Is n) = OctetIs n next
+abbrev pub octetSpelled : ℕ → Number → OctetAt
+octetSpelled next Nothing = NoOctet
+octetSpelled next (Is n) = OctetIs n next
 
-abbrev pub idIn : ℕ → Number → IdAt
-idIn next Nothing = NoId
-idIn next (Is n) = IdIs (idOf n) next
+abbrev pub idSpelled : ℕ → Number → IdAt
+idSpelled next Nothing = NoId
+idSpelled next (Is n) = IdIs (idOf n) next
 
 -- the next word from a place on as a number, and the place behind it
 unfoldable pub octetAt : List ℕ → ℕ → OctetAt
-octetAt s at = octetIn (wordAt s at .end) (number 255 (spelled s (wordAt s at)))
+octetAt s at = octetSpelled (wordAt s at .end) (number 255 (spelled s (wordAt s at)))
 
 unfoldable pub idAt : List ℕ → ℕ → IdAt
-idAt s at = idIn (wordAt s at .end) (signed (spelled s (wordAt s at)))
+idAt s at = idSpelled (wordAt s at .end) (signed (spelled s (wordAt s at)))

@@ -12,7 +12,7 @@ use Rattle.codes.specs.Ids.{octetOf}
 use Rattle.octets.proofs.SpliceLaws.{splice-splice}
 use Rattle.elements.specs.Element.{shortest, header, written}
 use Rattle.elements.proofs.ElementLaws.{shortest-length}
-use Rattle.components.specs.Written.{contents, componentOctets, answer, enclosedLength, codedLength, answerLength, rejectLength}
+use Rattle.components.specs.Written.{contents, componentOctets, resultFor, enclosedLength, codedLength, resultLength, rejectLength}
 use Rattle.components.specs.Component.{invoke, error, reject}
 use mathlib.Core.Option.{Option, none, some}
 
@@ -61,14 +61,14 @@ pub fits-as : (at n : ℕ) {v w : List ℕ} → v ≡ w → at + length w ≤ n 
 fits-as at n q h = subst (λ (x : List ℕ). at + length x ≤ n) (sym q) h
 
 -- the answer to an operation, without a parameter and with one; x is the id's octet
-pub answer-bare : (id : ℤ) (x o : ℕ) (p : List ℕ) → x ≡ octetOf id → length p ≡ 0 → written 0xA2 (0x02 ∷ 0x01 ∷ x ∷ p) ≡ componentOctets (answer id o p)
-unfolding contents answer
+pub answer-bare : (id : ℤ) (x o : ℕ) (p : List ℕ) → x ≡ octetOf id → length p ≡ 0 → written 0xA2 (0x02 ∷ 0x01 ∷ x ∷ p) ≡ componentOctets (resultFor id o p)
+unfolding contents resultFor
 answer-bare id x o [] e h = rw e
 answer-bare id x o (a ∷ p) e h = absurd (omega arith)
 
 pub answer-full : (id : ℤ) (x o : ℕ) (p : List ℕ) → x ≡ octetOf id → (length p ≡ 0 → ⊥)
-    → written 0xA2 ((0x02 ∷ 0x01 ∷ x ∷ []) ++ written 0x30 (0x02 ∷ 0x01 ∷ o ∷ p)) ≡ componentOctets (answer id o p)
-unfolding contents answer
+    → written 0xA2 ((0x02 ∷ 0x01 ∷ x ∷ []) ++ written 0x30 (0x02 ∷ 0x01 ∷ o ∷ p)) ≡ componentOctets (resultFor id o p)
+unfolding contents resultFor
 answer-full id x o [] e h = absurd (h refl)
 answer-full id x o (a ∷ p) e h = rw e
 
@@ -85,8 +85,8 @@ pub error-octets : (id : ℤ) (o : ℕ) (p : List ℕ) → length (componentOcte
 unfolding contents
 error-octets id o p = six-length 0xA3 0x02 0x01 (octetOf id) 0x02 0x01 o p
 
-pub answer-octets : (id : ℤ) (o : ℕ) (p : List ℕ) → length (componentOctets (answer id o p)) ≡ answerLength (length p)
-unfolding contents answer
+pub answer-octets : (id : ℤ) (o : ℕ) (p : List ℕ) → length (componentOctets (resultFor id o p)) ≡ resultLength (length p)
+unfolding contents resultFor
 answer-octets id o [] = place-length 0xA2 0x02 0x01 (octetOf id) []
 answer-octets id o (a ∷ p) =
     let e = place-length 0x30 0x02 0x01 o (a ∷ p) in
@@ -99,7 +99,7 @@ reject-octets none tag problem = refl
 reject-octets (some id) tag problem = refl
 
 -- a bound on each length that leaves room for what stands around it
-pub answer-bound : (n : ℕ) → n ≤ 255 → answerLength n ≤ 300
+pub answer-bound : (n : ℕ) → n ≤ 255 → resultLength n ≤ 300
 answer-bound n h = go (eqb n 0)
   where
     go : (b : Bool) → cond b (enclosedLength 3) (enclosedLength (3 + enclosedLength (3 + n))) ≤ 300

@@ -9,7 +9,7 @@ ghost use Rattle.octets.specs.Splice.{splice};
 ghost use Rattle.elements.specs.Element.{written};
 ghost use Rattle.places.specs.Seen.{idSeen};
 ghost use Rattle.components.specs.Component.{invoke, error, reject};
-ghost use Rattle.components.specs.Written.{componentOctets, answer, enclosedLength, codedLength, answerLength, rejectLength};
+ghost use Rattle.components.specs.Written.{componentOctets, resultFor, enclosedLength, codedLength, resultLength, rejectLength};
 
 // An element with so many octets of contents.
 fn enclosed_length(n: usize) -> usize
@@ -30,7 +30,7 @@ pub fn coded_length(n: usize) -> usize
 // A Return result with a parameter of so many octets.
 pub fn answer_length(n: usize) -> usize
     requires { ⌜ n ≤ 255 ⌝ }
-    ensures { λ r. ⌜ r ≡ answerLength n ⌝ }
+    ensures { λ r. ⌜ r ≡ resultLength n ⌝ }
 {
     if n == 0 {
         return enclosed_length(3);
@@ -91,9 +91,9 @@ pub fn write_reject(buf: &mut [u8], at: usize, id: Id, tag: u8, problem: u8) -> 
 
 // A Return result; without a parameter it has no 30.
 pub fn write_answer(buf: &mut [u8], at: usize, id: i8, operation: u8, p: &[u8]) -> usize
-    requires { ⌜ (length (now p) ≤ 255) × (at + length (componentOctets (answer id operation (now p))) ≤ length (now buf)) ⌝ }
-    ensures writes { λ _. ⌜ now (buf .exit) ≡ splice (now (buf .entry)) at (componentOctets (answer id operation (now (p .entry)))) ⌝ }
-    ensures next { λ r. ⌜ r ≡ at + length (componentOctets (answer id operation (now (p .entry)))) ⌝ }
+    requires { ⌜ (length (now p) ≤ 255) × (at + length (componentOctets (resultFor id operation (now p))) ≤ length (now buf)) ⌝ }
+    ensures writes { λ _. ⌜ now (buf .exit) ≡ splice (now (buf .entry)) at (componentOctets (resultFor id operation (now (p .entry)))) ⌝ }
+    ensures next { λ r. ⌜ r ≡ at + length (componentOctets (resultFor id operation (now (p .entry)))) ⌝ }
 {
     let head = [0x02, 0x01, codes::ids::octet_of(id)];
     if p.len() == 0 {

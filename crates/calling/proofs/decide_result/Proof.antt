@@ -6,7 +6,7 @@ use borrow.Author.Tests.{not-true, not-false}
 use lib.ListN.{length}
 use Rattle.octets.specs.Reader.{fault, sound}
 use Rattle.parameters.specs.Suits.{suits, ResultWritten}
-use Rattle.components.specs.Written.{answerLength}
+use Rattle.components.specs.Written.{resultLength}
 use Rattle.table.specs.Table.{valid, entryAt}
 use Rattle.table.specs.Seen.{invokeSeen, slotSeen}
 use Rattle.table.specs.declared.Named.{Named}
@@ -123,7 +123,7 @@ returns-6 c =
     let q : o ≡ operationOf (a .id) (invokeSeen (slot .peer)) = operation-is (invokeSeen (slot .peer)) (c .before .before .before .before .before .before .before .before .before .before .before .before .before .before .before .before .before .before .fits .id) (c .before .before .before .before .before .before .waiting-operation .ensures) in
     let s : suits ResultWritten o (a .p .now) ≡ true = sym (c .before .before .before .before .before .suits-result-written .ensures) ∙ not-false _ (c .before .before .before .before .if3 .left) in
     let r = c .before .length-refusal .result in
-    let e : r ≡ lengthRefusal (3 + answerLength (length (a .p .now))) (a .room) = rw (c .before .before .facility-answer-length .ensures) at (c .before .length-refusal .ensures) in
+    let e : r ≡ lengthRefusal (3 + resultLength (length (a .p .now))) (a .room) = rw (c .before .before .facility-answer-length .ensures) at (c .before .length-refusal .ensures) in
     (result-refused (a .table .now) (a .room) (a .flag) (a .value) (a .id) (a .p .now) d k t slot seen m o q s r e (c .if5 .taken), (tt, tt))
 
 returns-7 : tie.Need-returns-7
@@ -140,7 +140,7 @@ returns-7 c =
     let q : o ≡ operationOf (a .id) (invokeSeen (slot .peer)) = operation-is (invokeSeen (slot .peer)) (c .before .before .before .before .before .before .before .before .before .before .before .before .before .before .before .before .before .before .fits .id) (c .before .before .before .before .before .before .waiting-operation .ensures) in
     let s : suits ResultWritten o (a .p .now) ≡ true = sym (c .before .before .before .before .before .suits-result-written .ensures) ∙ not-false _ (c .before .before .before .before .if3 .left) in
     let r = c .before .length-refusal .result in
-    let e : r ≡ lengthRefusal (3 + answerLength (length (a .p .now))) (a .room) = rw (c .before .before .facility-answer-length .ensures) at (c .before .length-refusal .ensures) in
+    let e : r ≡ lengthRefusal (3 + resultLength (length (a .p .now))) (a .room) = rw (c .before .before .facility-answer-length .ensures) at (c .before .length-refusal .ensures) in
     let g = result-goes (a .table .now) (a .room) (a .flag) (a .value) (a .id) (a .p .now) d k t slot seen m o q s r e (c .if5 .left) w in
     (g .0, (g .1, g .2))
 

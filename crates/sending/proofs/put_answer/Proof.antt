@@ -2,7 +2,7 @@ use borrow.Author.Needs.{needs}
 use native.Mathlib.Omega.{arith}
 use mathlib.Core.Path.{sym, _∙_}
 use Rattle.codes.proofs.IdLaws.{held-is}
-use Rattle.components.specs.Written.{componentOctets, answer}
+use Rattle.components.specs.Written.{componentOctets, resultFor}
 use Rattle.writing.proofs.WriteLaws.{answer-octets}
 use Rattle.sending.proofs.SendLaws.{facility-joined, facility-length}
 use Rattle.sending.proofs.put_answer.Statement.{statement}
@@ -39,7 +39,7 @@ returns c =
     let a = c .before .before .before .before .before .before .before .before .before .before .before .before .args in
     let n = answer-octets (a .id) (a .operation) (a .p .now) in
     let w = rw (held-is (c .before .before .before .before .before .before .before .before .before .before .before .before .fits .id)) at (c .before .before .write-answer .ensures) in
-    (facility-joined (a .buf .now) _ _ (a .first) _ (componentOctets (answer (a .id) (a .operation) (a .p .now))) (c .before .before .before .before .before .before .before .before .before .answer-length .ensures ∙ sym n) (omega arith) (c .before .before .before .before .before .before .put .ensures) (w .0), w .1 ∙ sym (facility-length (a .first) (componentOctets (answer (a .id) (a .operation) (a .p .now)))))
+    (facility-joined (a .buf .now) _ _ (a .first) _ (componentOctets (resultFor (a .id) (a .operation) (a .p .now))) (c .before .before .before .before .before .before .before .before .before .answer-length .ensures ∙ sym n) (omega arith) (c .before .before .before .before .before .before .put .ensures) (w .0), w .1 ∙ sym (facility-length (a .first) (componentOctets (resultFor (a .id) (a .operation) (a .p .now)))))
 
 pub put-answer-spec : {M : Type 1} → statement M
 put-answer-spec =

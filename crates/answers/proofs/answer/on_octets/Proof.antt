@@ -4,7 +4,7 @@ use mathlib.Core.Path.{_≡_, refl, sym, ap, _∙_}
 use native.Mathlib.Omega.{arith}
 use lib.ListN.{length}
 use lib.Seq.{length-take-le}
-use Rattle.words.specs.Hex.{Octets}
+use Rattle.words.specs.Hex.{HexOctets}
 use Rattle.answers.specs.Answers.{benchState}
 use Rattle.answers.proofs.AnswerLaws.{stays, octets-wrong, octets-long, octets-image, octets-call, by-call, read-is, row-is, same}
 use Rattle.answers.proofs.answer.on_octets.Statement.{statement}
@@ -40,7 +40,7 @@ returns : tie.Need-returns
 returns c =
     let a = c .before .before .before .before .before .before .before .before .before .before .before .before .before .args in
     let u = c .before .before .not-understood .ensures in
-    let e = ap (λ (o : Octets). o .ends) (read-is (a .line .now) (a .at) _ (c .before .before .before .before .before .before .before .before .before .part .ensures .0)) ∙ sym (c .before .before .before .before .before .before .before .read-hex .ensures .1 .0) ∙ c .before .before .before .before .enum-told .given .1 in
+    let e = ap (λ (o : HexOctets). o .ends) (read-is (a .line .now) (a .at) _ (c .before .before .before .before .before .before .before .before .before .part .ensures .0)) ∙ sym (c .before .before .before .before .before .before .before .read-hex .ensures .1 .0) ∙ c .before .before .before .before .enum-told .given .1 in
     stays _ (a .space .now) _ _ _ _ _ (a .held .room) _ (octets-wrong (a .number) (a .line .now) (a .at) (a .command) (benchState (a .space .now) (a .held)) (a .is-image) e) (omega arith) (omega arith) (omega arith) refl (u .0, u .1 .0) (omega arith)
 
 enum-told-2 : tie.Need-enum-told-2
@@ -56,7 +56,7 @@ returns-2 : tie.Need-returns-2
 returns-2 c =
     let a = c .before .before .before .before .before .before .before .before .before .before .before .before .before .args in
     let u = c .before .before .too-long .ensures in
-    let e = ap (λ (o : Octets). o .ends) (read-is (a .line .now) (a .at) _ (c .before .before .before .before .before .before .before .before .before .part .ensures .0)) ∙ sym (c .before .before .before .before .before .before .before .read-hex .ensures .1 .0) ∙ c .before .before .before .before .enum-told2 .given .1 in
+    let e = ap (λ (o : HexOctets). o .ends) (read-is (a .line .now) (a .at) _ (c .before .before .before .before .before .before .before .before .before .part .ensures .0)) ∙ sym (c .before .before .before .before .before .before .before .read-hex .ensures .1 .0) ∙ c .before .before .before .before .enum-told2 .given .1 in
     stays _ (a .space .now) _ _ _ _ _ (a .held .room) _ (octets-long (a .number) (a .line .now) (a .at) (a .command) (benchState (a .space .now) (a .held)) (a .is-image) e) (omega arith) (omega arith) (omega arith) refl (u .0, u .1 .0) (omega arith)
 
 enum-told-3 : tie.Need-enum-told-3
@@ -86,8 +86,8 @@ returns-3 c =
     let x = c .before .before .before .before .before .before .before .before .before .before .before .before .read-hex .ensures in
     let s = benchState (a .space .now) (a .held) in
     let r = read-is (a .line .now) (a .at) _ (c .before .before .before .before .before .before .before .before .before .before .before .before .before .before .part .ensures .0) in
-    let e = ap (λ (o : Octets). o .ends) r ∙ sym (x .1 .0) ∙ c .before .before .before .before .before .before .before .before .before .enum-told3 .given .1 in
-    let f = ap (λ (o : Octets). o .octets) r ∙ row-is _ _ _ _ (x .0) (x .1 .1 .0) in
+    let e = ap (λ (o : HexOctets). o .ends) r ∙ sym (x .1 .0) ∙ c .before .before .before .before .before .before .before .before .before .enum-told3 .given .1 in
+    let f = ap (λ (o : HexOctets). o .octets) r ∙ row-is _ _ _ _ (x .0) (x .1 .1 .0) in
     same _ _ (a .space .now) _ (a .page .now) _ _ (octets-image (a .number) (a .line .now) (a .at) (a .command) s (a .is-image) _ (c .before .before .before .before .before .before .before .before .if1 .taken) e f) (c .before .before .before .before .on-image .ensures)
 
 array-share-prefix-octets-2 : tie.Need-array-share-prefix-octets-2
@@ -118,8 +118,8 @@ returns-4 c =
     let x = c .before .before .before .before .before .before .before .before .before .before .before .before .read-hex .ensures in
     let s = benchState (a .space .now) (a .held) in
     let r = read-is (a .line .now) (a .at) _ (c .before .before .before .before .before .before .before .before .before .before .before .before .before .before .part .ensures .0) in
-    let e = ap (λ (o : Octets). o .ends) r ∙ sym (x .1 .0) ∙ c .before .before .before .before .before .before .before .before .before .enum-told3 .given .1 in
-    let f = ap (λ (o : Octets). o .octets) r ∙ row-is _ _ _ _ (x .0) (x .1 .1 .0) in
+    let e = ap (λ (o : HexOctets). o .ends) r ∙ sym (x .1 .0) ∙ c .before .before .before .before .before .before .before .before .before .enum-told3 .given .1 in
+    let f = ap (λ (o : HexOctets). o .octets) r ∙ row-is _ _ _ _ (x .0) (x .1 .1 .0) in
     by-call _ (a .command) s _ (a .space .now) _ (a .page .now) _ (a .held .size) (a .held .room) _ (octets-call (a .number) (a .line .now) (a .at) (a .command) s (a .is-image) _ (c .before .before .before .before .before .before .before .before .if1 .left) e f) refl (omega arith) (omega arith) (c .before .before .before .before .on-call .ensures)
 
 pub on-octets-spec : {M : Type 1} → statement M

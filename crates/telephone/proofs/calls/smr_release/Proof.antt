@@ -59,10 +59,10 @@ returns-2 : tie.Need-returns-2
 unfolding release
 returns-2 c =
     let g = c .before .before .before .before .before .before .before .before .before .before .entry .given in
-    let m : List ℕ = layout.release (layout.sentFirst (c .before .before .before .before .before .before .before .before .before .before .before .before .before .before .before .before .args .flag) (c .before .before .before .before .before .before .before .before .before .before .before .before .before .before .before .before .args .value)) in
+    let m : List ℕ = layout.releaseEmpty (layout.sentFirst (c .before .before .before .before .before .before .before .before .before .before .before .before .before .before .before .before .args .flag) (c .before .before .before .before .before .before .before .before .before .before .before .before .before .before .before .before .args .value)) in
     let s : Sending = record { entry = g .0 .0; becomes = slotSeen (g .0 .1 .0); message = m } in
     let e : sound s ≡ calls.sendRelease (c .before .before .before .before .before .before .before .before .before .before .before .before .before .before .before .before .args .table .now) (length (c .before .before .before .before .before .before .before .before .before .before .before .before .before .before .before .before .args .buffer .now)) (c .before .before .before .before .before .before .before .before .before .before .before .before .before .before .before .before .args .flag) (c .before .before .before .before .before .before .before .before .before .before .before .before .before .before .before .before .args .value) = ((rw (g .1) at (c .before .before .before .before .before .before .before .before .before .before .before .before .decide-release .ensures .0))) in
-    let f : c .before .before .before .before .before .before .put-release .last .0 ≡ splice (c .before .before .before .before .before .before .before .before .before .before .before .before .before .before .before .before .args .buffer .now) 0 m = c .before .before .before .before .before .before .put-release .ensures .0 ∙ ap (λ (first : ℕ). splice (c .before .before .before .before .before .before .before .before .before .before .before .before .before .before .before .before .args .buffer .now) 0 (layout.release first)) (c .before .before .before .before .before .before .before .before .sent-first .ensures) in
+    let f : c .before .before .before .before .before .before .put-release .last .0 ≡ splice (c .before .before .before .before .before .before .before .before .before .before .before .before .before .before .before .before .args .buffer .now) 0 m = c .before .before .before .before .before .before .put-release .ensures .0 ∙ ap (λ (first : ℕ). splice (c .before .before .before .before .before .before .before .before .before .before .before .before .before .before .before .before .args .buffer .now) 0 (layout.releaseEmpty first)) (c .before .before .before .before .before .before .before .before .sent-first .ensures) in
     let l : c .before .before .before .before .before .before .put-release .result ≡ length m = c .before .before .before .before .before .before .put-release .ensures .1 in
     sent-as (c .before .before .before .before .before .before .before .before .before .before .before .before .before .before .before .before .args .table .now) (c .before .before .before .before .before .before .before .before .before .before .before .before .before .before .before .before .args .buffer .now) noValue (calls.sendRelease (c .before .before .before .before .before .before .before .before .before .before .before .before .before .before .before .before .args .table .now) (length (c .before .before .before .before .before .before .before .before .before .before .before .before .before .before .before .before .args .buffer .now)) (c .before .before .before .before .before .before .before .before .before .before .before .before .before .before .before .before .args .flag) (c .before .before .before .before .before .before .before .before .before .before .before .before .before .before .before .before .args .value)) s 0 _ _ _ e refl l f (c .before .before .write-entry .ensures)
 

@@ -7,7 +7,7 @@ use lib.ListN.{length}
 use Rattle.octets.specs.Reader.{fault, sound}
 use Rattle.octets.specs.Splice.{splice}
 use Rattle.codes.proofs.IdLaws.{held-is}
-use Rattle.components.specs.Written.{componentOctets, answer}
+use Rattle.components.specs.Written.{componentOctets, resultFor}
 use Rattle.messages.specs.Layout as layout
 use Rattle.table.specs.Seen.{slotSeen}
 use Rattle.calling.specs.Calls.{Sending}
@@ -63,7 +63,7 @@ returns-2 : tie.Need-returns-2
 unfolding result
 returns-2 c =
     let g = c .before .before .before .before .before .before .before .before .before .before .entry .given in
-    let m : List ℕ = layout.facilityMessage (layout.sentFirst (c .before .before .before .before .before .before .before .before .before .before .before .before .before .before .before .before .before .args .flag) (c .before .before .before .before .before .before .before .before .before .before .before .before .before .before .before .before .before .args .value)) (componentOctets (answer (c .before .before .before .before .before .before .before .before .before .before .before .before .before .before .before .before .before .args .id) (g .0 .1 .1 .0) (c .before .before .before .before .before .before .before .before .before .before .before .before .before .before .before .before .before .args .parameter .now))) in
+    let m : List ℕ = layout.facilityMessage (layout.sentFirst (c .before .before .before .before .before .before .before .before .before .before .before .before .before .before .before .before .before .args .flag) (c .before .before .before .before .before .before .before .before .before .before .before .before .before .before .before .before .before .args .value)) (componentOctets (resultFor (c .before .before .before .before .before .before .before .before .before .before .before .before .before .before .before .before .before .args .id) (g .0 .1 .1 .0) (c .before .before .before .before .before .before .before .before .before .before .before .before .before .before .before .before .before .args .parameter .now))) in
     let s : Sending = record { entry = g .0 .0; becomes = slotSeen (g .0 .1 .0); message = m } in
     let e : sound s ≡ calls.sendResult (c .before .before .before .before .before .before .before .before .before .before .before .before .before .before .before .before .before .args .table .now) (length (c .before .before .before .before .before .before .before .before .before .before .before .before .before .before .before .before .before .args .buffer .now)) (c .before .before .before .before .before .before .before .before .before .before .before .before .before .before .before .before .before .args .flag) (c .before .before .before .before .before .before .before .before .before .before .before .before .before .before .before .before .before .args .value) (c .before .before .before .before .before .before .before .before .before .before .before .before .before .before .before .before .before .args .id) (c .before .before .before .before .before .before .before .before .before .before .before .before .before .before .before .before .before .args .parameter .now) = (rw (held-is (c .before .before .before .before .before .before .before .before .before .before .before .before .before .before .before .before .before .fits .id)) at (rw (g .1) at (c .before .before .before .before .before .before .before .before .before .before .before .before .decide-result .ensures .0))) in
     let f : c .before .before .before .before .before .before .put-answer .last .0 ≡ splice (c .before .before .before .before .before .before .before .before .before .before .before .before .before .before .before .before .before .args .buffer .now) 0 m = rw (held-is (c .before .before .before .before .before .before .before .before .before .before .before .before .before .before .before .before .before .fits .id), c .before .before .before .before .before .before .before .before .sent-first .ensures) at (c .before .before .before .before .before .before .put-answer .ensures .0) in
