@@ -2,7 +2,7 @@
 use Prim.Native.Nat.{ℕ, zero, suc, _≤_, _<_}
 use mathlib.Core.Path.{_≡_, refl, sym, _∙_, subst}
 use mathlib.Core.List.{List, [], _∷_, _++_}
-use mathlib.Core.Bool.{Bool, true, false, _||_}
+use mathlib.Core.Bool.{Bool, true, false, _||_, or-true}
 use native.Mathlib.Omega.{arith}
 use lib.ListN.{length, length-append}
 use Rattle.octets.specs.Reader.{Answer, fault, sound, Taken, took, isEmpty}
@@ -40,10 +40,6 @@ unfolding rowOf
 row-of zero [] e = none
 row-of zero (a ∷ s) e = let z : _≡_ {A = ℕ} 0 1 = cc in absurd (omega arith)
 row-of (suc most) s e = row-turn s (λ r. rowOf most r) e (λ r h. row-of most r h)
-
-or-true : (b : Bool) → b || true ≡ true
-or-true true = refl
-or-true false = refl
 
 of-row : {s : List ℕ} → Row s → (most : ℕ) → length s ≤ most → rowOf most s ≡ true
 unfolding rowOf

@@ -1,8 +1,8 @@
 -- Every problem and every cause that is told is one of 01's.
 use Prim.Native.Nat.{ℕ}
-use mathlib.Core.Path.{_≡_, refl}
+use mathlib.Core.Path.{_≡_, refl, ap}
 use mathlib.Core.List.{List}
-use mathlib.Core.Bool.{Bool, true, false, cond, not, _&&_}
+use mathlib.Core.Bool.{Bool, true, false, cond, not, _&&_, _||_}
 use mathlib.Core.Option.{Option, none, some}
 use lib.ListN.{length, getD}
 use lib.IntN.{ℤ}
@@ -184,7 +184,7 @@ six-tells e (error id k p) r = judged-tells (judgeError e id k) id (error id k p
 six-tells e (reject id tag n) r = tt
 
 general-listed : (n : ℕ) → leb n 2 ≡ true → isProblem 0x80 n ≡ true
-general-listed n h = rw h
+general-listed n h = ap (λ (b : Bool). b || false || false) h
 
 five-tells : (e : Entry) (f : Finding) (r : List ℕ) → FindingLow f → Tells (fiveAndSix e f r)
 unfolding fiveAndSix

@@ -1,6 +1,6 @@
 -- Demand 1 holds.
 use Prim.Native.Nat.{ℕ, _+_, _*_, _≤_}
-use mathlib.Core.Path.{_≡_, refl, sym, ap, _∙_}
+use mathlib.Core.Path.{_≡_, refl, sym, ap, _∙_, subst}
 use mathlib.Core.List.{List}
 use mathlib.Core.Bool.{true, false≢true}
 use mathlib.Core.Option.{Option, some}
@@ -111,7 +111,7 @@ releases t b flag value = go (sendRelease t (length b) flag value) refl (fine-re
         let l = h .below in
         let i = h .image in
         let f : size * s .entry + size ≤ length t = omega arith in (
-          rw (← r .0) (record { written = refl; front = front-is b (s .message); behind = behind-stays b (s .message); room = h .fits }),
+          subst (λ (x : List ℕ). Writes b x (callOutcome t b noValue (sound s))) (r .0) (record { written = refl; front = front-is b (s .message); behind = behind-stays b (s .message); room = h .fits }),
           λ k n.
               let y : s .entry ≡ k = some-inj (sym (r .1 .1 .1) ∙ n) in
               rw (← y, r .1 .0) (record { own = closed-back t (s .entry) f; others = λ j m. others-stay t j (s .entry) closed f m }),

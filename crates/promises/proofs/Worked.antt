@@ -1,6 +1,5 @@
 -- W1 to W10 hold, by computation.
 use mathlib.Core.Path.{_≡_, refl}
-use lib.ListN.{length}
 use Rattle.calling.specs.Calls.{transaction as calling-transaction, fitting as calling-fitting, sendBegin as calling-begin, sendResult as calling-sendResult}
 use Rattle.codes.specs.Errors.{listed as codes-listed}
 use Rattle.components.specs.Written.{contents as components-contents, resultFor as components-answer}
@@ -20,15 +19,13 @@ use Rattle.table.specs.Table.{entryOf as table-entryOf, soundImage as table-sou
 use Rattle.telephone.specs.Receive.{act as telephone-act, receive as telephone-receive}
 use Rattle.telephone.specs.Calls.{begin as telephone-begin, result as telephone-result}
 use Rattle.showing.specs.Views.{componentView as showing-componentView, textView as showing-textView, causeView as showing-causeView}
-use Rattle.telephone.specs.Receive.{receive}
-use Rattle.telephone.specs.FromC.{receivedOf}
-use Rattle.promises.specs.Worked.{fresh, buffer, w1, w1Received, Worked}
+use Rattle.promises.specs.Worked.{W1Received, Worked}
 
 -- W1 as C sees it
-w1-received : receivedOf (length w1) (receive fresh w1 buffer) ≡ w1Received
+pub w1-received : W1Received
 unfolding calling-transaction calling-fitting calling-begin calling-sendResult codes-listed components-contents components-answer components-invokeOf components-resultOf components-errorOf components-rejectOf components-afterTag components-component components-inside components-facility deciding-stepSix deciding-fiveAndSix deciding-fourToSix deciding-onRelease deciding-pickedEntry deciding-replyFirst deciding-decide elements-lengthOf elements-element elements-rowOf elements-row elements-shortest judging-among judging-full judging-operationOf judging-without judging-linkedProblem judging-judgeInvoke judging-isOurs judging-judgeResult judging-judgeError messages-sized messages-mandatory messages-register messages-facilityMessage messages-releaseFacility messages-information messages-clearOf messages-clear messages-required messages-firstOf messages-firstTaken octets-splice parameters-suitsInvokeReceived parameters-suitsResultReceived parameters-suitsInvokeWritten parameters-suitsResultWritten parameters-suits parameters-string parameters-text parameters-ussdContents parameters-ussd parameters-ssForBsContents places-single places-parameter places-called places-coded places-rejected components-textOf table-entryOf table-soundImage table-entryAt table-soundEntries table-valid table-stateOf table-entryOctets table-withEntry table-lowestFrom table-lowestClosed telephone-act telephone-receive telephone-begin telephone-result showing-componentView showing-textView showing-causeView
 w1-received = refl
 
 pub worked : Worked
 unfolding calling-transaction calling-fitting calling-begin calling-sendResult codes-listed components-contents components-answer components-invokeOf components-resultOf components-errorOf components-rejectOf components-afterTag components-component components-inside components-facility deciding-stepSix deciding-fiveAndSix deciding-fourToSix deciding-onRelease deciding-pickedEntry deciding-replyFirst deciding-decide elements-lengthOf elements-element elements-rowOf elements-row elements-shortest judging-among judging-full judging-operationOf judging-without judging-linkedProblem judging-judgeInvoke judging-isOurs judging-judgeResult judging-judgeError messages-sized messages-mandatory messages-register messages-facilityMessage messages-releaseFacility messages-information messages-clearOf messages-clear messages-required messages-firstOf messages-firstTaken octets-splice parameters-suitsInvokeReceived parameters-suitsResultReceived parameters-suitsInvokeWritten parameters-suitsResultWritten parameters-suits parameters-string parameters-text parameters-ussdContents parameters-ussd parameters-ssForBsContents places-single places-parameter places-called places-coded places-rejected components-textOf table-entryOf table-soundImage table-entryAt table-soundEntries table-valid table-stateOf table-entryOctets table-withEntry table-lowestFrom table-lowestClosed telephone-act telephone-receive telephone-begin telephone-result showing-componentView showing-textView showing-causeView
-worked = (((refl, (refl, (refl, (refl, refl)))), w1-received), ((refl, (refl, (refl, (refl, refl)))), ((refl, refl), ((refl, refl), ((refl, refl), ((refl, refl), ((refl, refl), ((refl, refl), ((refl, refl), (refl, refl))))))))))
+worked = ((refl, (refl, (refl, (refl, refl)))), ((refl, (refl, (refl, (refl, refl)))), ((refl, refl), ((refl, refl), ((refl, refl), ((refl, refl), ((refl, refl), ((refl, refl), ((refl, refl), (refl, refl))))))))))

@@ -5,9 +5,9 @@ use Rattle.promises.specs.LaterEdition.{Demand3}
 use Rattle.promises.specs.Parts.{PartsStand}
 use Rattle.octets.specs.OneAnswer.{Exact}
 use Rattle.promises.specs.Determined.{Determined}
-use Rattle.promises.specs.Worked.{Worked}
+use Rattle.promises.specs.Worked.{Worked, W1Received}
 use Rattle.promises.specs.Editions.{Editions}
 use Rattle.promises.specs.NeverDamaged.{NeverDamaged}
 
 abbrev pub All : Type 1
-All = Demand1 × (Demand2 × (Demand3 × (PartsStand × (Exact × (Determined × (Worked × (Editions × NeverDamaged)))))))
+All = Demand1 × (Demand2 × (Demand3 × (PartsStand × (Exact × (Determined × (Worked × (W1Received × (Editions × NeverDamaged))))))))

@@ -66,6 +66,9 @@ w1Received =
       cause = record { «is_there» = false; contents = record { start = 0; end = 0 } };
     }
 
+abbrev pub W1Received : Type 0
+W1Received = receivedOf (length w1) (receive fresh w1 buffer) ≡ w1Received
+
 -- "W1 with 04 01 02 appended: lengths become 13, 11, 09; same values, tail 04 01 02."
 abbrev pub w2 : List ℕ
 w2 = 0x0B ∷ 0x3B ∷ 0x1C ∷ 0x13 ∷ 0xA1 ∷ 0x11 ∷ 0x02 ∷ 0x01 ∷ 0x05 ∷ 0x02 ∷ 0x01 ∷ 0x3C ∷ 0x30 ∷ 0x09 ∷ 0x04 ∷ 0x01 ∷ 0x0F ∷ 0x04 ∷ 0x01 ∷ 0x41 ∷ 0x04 ∷ 0x01 ∷ 0x02 ∷ []
@@ -87,7 +90,7 @@ w3 = 0x0B ∷ 0x3A ∷ 0x10 ∷ 0xA1 ∷ 0x0E ∷ 0x02 ∷ 0x01 ∷ 0x05 ∷ 0x0
 
 abbrev pub Worked : Type 0
 Worked =
-    (W1 (receive fresh w1 buffer) × (receivedOf (length w1) (receive fresh w1 buffer) ≡ w1Received))
+    W1 (receive fresh w1 buffer)
     × (W2 (receive fresh w2 buffer)
     × (Answers 3 (0x8B ∷ 0x2A ∷ 0x1C ∷ 0x08 ∷ 0xA4 ∷ 0x06 ∷ 0x02 ∷ 0x01 ∷ 0x05 ∷ 0x81 ∷ 0x01 ∷ 0x00 ∷ []) (receive afterW1 w3 buffer)
     -- W4, "after W1, result with 30 06 04 01 0F 04 01 31"
