@@ -1,6 +1,8 @@
-// The error codes that may stand in a Return error, one entry for each octet.
+// The error codes that may stand in a Return error, one entry for each octet, and those that each operation may return.
 ghost use mathlib.Core.Path.{_≡_};
-ghost use Rattle.codes.specs.Errors.{listed};
+ghost use Prim.Native.Nat.{_≤_};
+ghost use lib.ListN.{take};
+ghost use Rattle.codes.specs.Errors.{listed, mayReturn, isIn, registerSS-Errors, registerPassword-Errors, processUnstructuredSS-Request-Errors};
 
 const LISTED: [bool; 256] = [
     false,
@@ -265,4 +267,56 @@ pub fn is_listed(code: u8) -> bool
     ensures { λ r. ⌜ r ≡ listed code ⌝ }
 {
     LISTED[code as usize]
+}
+
+// What the lists of 10 to 14 share.
+fn is_shared(code: u8) -> bool
+    ensures { λ r. ⌜ r ≡ isIn code (take 7 registerSS-Errors) ⌝ }
+{
+    match code {
+        10 | 11 | 13 | 16 | 34..=36 => true,
+        _ => false,
+    }
+}
+
+// An error of 10 to 14, the operations on a service.
+fn is_of_service(operation: u8, code: u8) -> bool
+    requires { ⌜ (10 ≤ operation) × (operation ≤ 14) ⌝ }
+    ensures { λ r. ⌜ r ≡ mayReturn operation code ⌝ }
+{
+    is_shared(code)
+        | ((code == 17) & (operation != 14))
+        | ((code == 18) & (operation == 14))
+        | (((code == 19) | (code == 38) | (code == 43)) & ((operation == 12) | (operation == 13)))
+        | ((code == 20) & ((operation == 10) | (operation == 12)))
+}
+
+fn is_of_password(code: u8) -> bool
+    ensures { λ r. ⌜ r ≡ isIn code registerPassword-Errors ⌝ }
+{
+    match code {
+        13 | 19 | 34..=38 | 43 => true,
+        _ => false,
+    }
+}
+
+fn is_of_ussd(code: u8) -> bool
+    ensures { λ r. ⌜ r ≡ isIn code processUnstructuredSS-Request-Errors ⌝ }
+{
+    match code {
+        13 | 34..=36 | 71 => true,
+        _ => false,
+    }
+}
+
+// Whether the operation may return the error.
+pub fn may_return(operation: u8, code: u8) -> bool
+    ensures { λ r. ⌜ r ≡ mayReturn operation code ⌝ }
+{
+    match operation {
+        10..=14 => is_of_service(operation, code),
+        17 => is_of_password(code),
+        59 => is_of_ussd(code),
+        _ => false,
+    }
 }
