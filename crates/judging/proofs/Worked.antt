@@ -6,7 +6,7 @@ use mathlib.Core.Bool.{true}
 use mathlib.Core.Option.{none, some}
 use lib.IntN.{pos}
 use Rattle.elements.specs.Element.{lengthOf, element, rowOf, row}
-use Rattle.codes.specs.Errors.{listed}
+use Rattle.codes.specs.Errors.{listed, errorsOf, mayReturn}
 use Rattle.parameters.specs.Parameter.{string, text, ussdContents, ussd, ssForBsContents}
 use Rattle.parameters.specs.Suits.{suitsInvokeReceived, suitsResultReceived, suits}
 use Rattle.table.specs.Table.{Waiting, Entry}
@@ -63,9 +63,14 @@ pub worked :
     × (judgeResult (ours 59) (pos 1) (some 60) [] ≡ problem 0x82 2)
     × (judgeResult (ours 59) (pos 1) (some 59) [] ≡ accepted open1)
     × (judgeResult (ours 10) (pos 1) (some 10) (0x10 ∷ 0x00 ∷ []) ≡ accepted open1)
-    -- errors: the id, the code
+    -- errors: the id, the code, the list of the operation that waits under the id
     × (judgeError open1 (pos 0) 1 ≡ problem 0x83 0)
-    × (judgeError (ours 10) (pos 1) 2 ≡ problem 0x83 2)
-    × (judgeError (ours 10) (pos 1) 71 ≡ accepted open1)
-unfolding lengthOf element rowOf row listed string text ussdContents ussd ssForBsContents suitsInvokeReceived suitsResultReceived suits among full operationOf without linkedProblem judgeInvoke isOurs judgeResult judgeError
-worked = (refl, refl, refl, refl, refl, refl, refl, refl, refl, refl, refl, refl, refl, refl, refl, refl, refl, refl, refl, refl, refl, refl, refl, refl, refl, refl)
+    × (judgeError (ours 11) (pos 2) 72 ≡ problem 0x83 0)
+    × (judgeError (ours 11) (pos 1) 2 ≡ problem 0x83 2)
+    × (judgeError (ours 11) (pos 1) 72 ≡ problem 0x83 3)
+    × (judgeError (ours 10) (pos 1) 71 ≡ problem 0x83 3)
+    × (judgeError (ours 59) (pos 1) 72 ≡ problem 0x83 3)
+    × (judgeError (ours 59) (pos 1) 71 ≡ accepted open1)
+    × (judgeError both17 (pos 1) 37 ≡ accepted (record { isOpen = true; own = []; peer = waiting 7 18 }))
+unfolding lengthOf element rowOf row listed errorsOf mayReturn string text ussdContents ussd ssForBsContents suitsInvokeReceived suitsResultReceived suits among full operationOf without linkedProblem judgeInvoke isOurs judgeResult judgeError
+worked = (refl, refl, refl, refl, refl, refl, refl, refl, refl, refl, refl, refl, refl, refl, refl, refl, refl, refl, refl, refl, refl, refl, refl, refl, refl, refl, refl, refl, refl, refl, refl)

@@ -8,7 +8,7 @@ use lib.Dec.{eqb}
 use Rattle.octets.specs.Unless.{unless}
 use Rattle.codes.specs.Ids.{octetOf}
 use Rattle.codes.specs.Operations.{serves, waits}
-use Rattle.codes.specs.Errors.{listed}
+use Rattle.codes.specs.Errors.{listed, mayReturn}
 use Rattle.codes.specs.Problems.{invokeProblem, resultProblem, errorProblem}
 use Rattle.parameters.specs.Suits.{suits, InvokeReceived, ResultReceived}
 use Rattle.table.specs.Table.{Waiting, Entry}
@@ -90,9 +90,11 @@ judgeResult e id operation p =
     (unless (isOurs operation (operationOf id (e .own)) && suits ResultReceived (operationOf id (e .own)) p) (problem resultProblem 2)
     (accepted (withoutOwn e id)))
 
--- "Error: id, error problem 0; code not listed, 2."
+-- "Error: id, error problem 0; code not listed, 2." "An error that is in 01's table but isn't in the list of the outstanding
+-- operation is now refused .. error problem 3, in step 6 directly after error problem 2."
 unfoldable pub judgeError : Entry → ℤ → ℕ → Judged
 judgeError e id code =
     unless (among id (e .own)) (problem errorProblem 0)
     (unless (listed code) (problem errorProblem 2)
-    (accepted (withoutOwn e id)))
+    (unless (mayReturn (operationOf id (e .own)) code) (problem errorProblem 3)
+    (accepted (withoutOwn e id))))

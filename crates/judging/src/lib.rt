@@ -248,6 +248,13 @@ pub fn judge_error(slot: Slot, id: i8, code: u8) -> Judgement
             number: 2,
         };
     }
+    let asked = waiting_operation(id, own);
+    if !codes::errors::may_return(asked, code) {
+        return Judgement::Problem {
+            tag: 0x83,
+            number: 3, // not an error of what was asked
+        };
+    }
     Judgement::Accepted {
         slot: Slot {
             open: slot.open, // as it was

@@ -1,17 +1,19 @@
 use borrow.Author.Needs.{needs}
 use mathlib.Core.Path.{_≡_, refl, sym, _∙_}
 use mathlib.Core.Bool.{true, false}
-use Rattle.codes.specs.Errors.{listed}
+use Rattle.codes.specs.Errors.{listed, mayReturn}
 use borrow.Author.Tests.{not-true, not-false}
 use Rattle.table.specs.Seen.{invokeSeen}
 use Rattle.judging.specs.StepSix.{judgeError}
-use Rattle.judging.proofs.Paths.{among-is, cleared}
+use Rattle.judging.proofs.Paths.{among-is, operation-is, cleared}
 use Rattle.judging.proofs.judge_error.Statement.{statement}
 use Rattle.judging.proofs.judge_error.Tie as tie
 use Rattle.judging.proofs.judge_error.Reads as reads
 use Rattle.judging.proofs.judge_error.Lts as lts
 use Rattle.codes.proofs.errors.is_listed.Reads as is-listed-reads
+use Rattle.codes.proofs.errors.may_return.Reads as may-return-reads
 use Rattle.judging.proofs.is_among.Reads as is-among-reads
+use Rattle.judging.proofs.waiting_operation.Reads as waiting-operation-reads
 
 is-among-requires : tie.Need-is-among-requires
 is-among-requires c κs = search needs
@@ -29,14 +31,45 @@ returns-2 c =
     let l : listed (c .before .before .before .before .args .code) ≡ false = sym (c .before .is-listed .ensures) ∙ not-true _ (c .if2 .taken) in
     (rw (sym (among-is (invokeSeen (c .before .before .before .before .args .slot .own)) (c .before .before .before .before .fits .id) (c .before .before .before .is-among .ensures)) ∙ not-false _ (c .before .before .if1 .left), l), λ p. tt)
 
+waiting-operation-requires : tie.Need-waiting-operation-requires
+waiting-operation-requires c κs = search needs
+
+may-return-requires : tie.Need-may-return-requires
+may-return-requires c κs = search needs
+
 returns-3 : tie.Need-returns-3
 unfolding judgeError
 returns-3 c =
-    let w = c .before .before .before .before .args .slot .own in
-    let m = sym (among-is (invokeSeen w) (c .before .before .before .before .fits .id) (c .before .before .before .is-among .ensures)) ∙ not-false _ (c .before .before .if1 .left) in
-    let l : listed (c .before .before .before .before .args .code) ≡ true = sym (c .before .is-listed .ensures) ∙ not-false _ (c .if2 .left) in
-    (rw (m, l, cleared (c .before .before .before .before .args .id) w m), λ p. (refl, tt))
+    let a = c .before .before .before .before .before .before .before .args in
+    let i = c .before .before .before .before .before .before .before .fits .id in
+    let ws = invokeSeen (a .slot .own) in
+    let m = sym (among-is ws i (c .before .before .before .before .before .before .is-among .ensures)) ∙ not-false _ (c .before .before .before .before .before .if1 .left) in
+    let l : listed (a .code) ≡ true = sym (c .before .before .before .before .is-listed .ensures) ∙ not-false _ (c .before .before .before .if2 .left) in
+    let o = operation-is ws i (c .before .before .waiting-operation .ensures) in
+    let r : mayReturn (c .before .before .waiting-operation .result) (a .code) ≡ false = sym (c .before .may-return .ensures) ∙ not-true _ (c .if3 .taken) in
+    (rw (m, l, ← o, r), λ p. tt)
+
+returns-4 : tie.Need-returns-4
+unfolding judgeError
+returns-4 c =
+    let a = c .before .before .before .before .before .before .before .args in
+    let i = c .before .before .before .before .before .before .before .fits .id in
+    let ws = invokeSeen (a .slot .own) in
+    let m = sym (among-is ws i (c .before .before .before .before .before .before .is-among .ensures)) ∙ not-false _ (c .before .before .before .before .before .if1 .left) in
+    let l : listed (a .code) ≡ true = sym (c .before .before .before .before .is-listed .ensures) ∙ not-false _ (c .before .before .before .if2 .left) in
+    let o = operation-is ws i (c .before .before .waiting-operation .ensures) in
+    let r : mayReturn (c .before .before .waiting-operation .result) (a .code) ≡ true = sym (c .before .may-return .ensures) ∙ not-false _ (c .if3 .left) in
+    (rw (m, l, ← o, r, cleared (a .id) (a .slot .own) m), λ p. (refl, tt))
 
 pub judge-error-spec : {M : Type 1} → statement M
 judge-error-spec =
-    tie.close (tie.spec is-among-requires returns is-listed-requires returns-2 returns-3)
+    tie.close
+    (tie.spec
+    is-among-requires
+    returns
+    is-listed-requires
+    returns-2
+    waiting-operation-requires
+    may-return-requires
+    returns-3
+    returns-4)
