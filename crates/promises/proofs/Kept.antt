@@ -9,7 +9,7 @@ use lib.IntN.{ℤ}
 use lib.Dec.{eqb}
 use Rattle.octets.specs.Unless.{unless}
 use Rattle.codes.specs.Operations.{begins, serves}
-use Rattle.codes.specs.Errors.{listed}
+use Rattle.codes.specs.Errors.{listed, mayReturn}
 use Rattle.codes.specs.Problems.{invokeProblem, resultProblem, errorProblem}
 use Rattle.parameters.specs.Suits.{suits, InvokeReceived, ResultReceived}
 use Rattle.components.specs.Component.{Component, invoke, reject}
@@ -61,7 +61,10 @@ module _ (e : Entry) (h : holds e ≡ true) (id : ℤ) where
 
   error-kept : (code : ℕ) → Kept (judgeError e id code)
   unfolding judgeError
-  error-kept code = kept-unless (among id (e .own)) errorProblem 0 _ λ a. kept-unless (listed code) errorProblem 2 _ λ s. without-own a
+  error-kept code =
+      kept-unless (among id (e .own)) errorProblem 0 _ λ a.
+      kept-unless (listed code) errorProblem 2 _ λ l.
+      kept-unless (mayReturn (operationOf id (e .own)) code) errorProblem 3 _ λ r. without-own a
 
 -- and so is every entry that a decision keeps
 abbrev pub Holds : Decision → Type 0

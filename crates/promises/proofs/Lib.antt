@@ -5,7 +5,9 @@ mod Silence
 mod Kept
 mod Listed
 mod RejectBack
+mod Reached
 pub mod OneVerdict
+pub mod ErrorLists
 pub mod ReadBack
 pub mod CannotAlter
 pub mod PastIsTooLong
@@ -17,5 +19,6 @@ pub mod Demand3
 pub mod Determined
 pub mod Worked
 pub mod Editions
+pub mod ErrorCases
 pub mod NeverDamaged
 pub mod All

@@ -12,7 +12,7 @@ use Rattle.octets.specs.Unless.{unless}
 use Rattle.octets.proofs.FaultLaws.{Faults, then-faults, check-faults, cond-faults, read-faults, octet-faults}
 use Rattle.elements.specs.Element.{missing, unreadable, refusedTag, lengthOf, twoOctets, Element, element}
 use Rattle.codes.specs.Operations.{serves}
-use Rattle.codes.specs.Errors.{listed}
+use Rattle.codes.specs.Errors.{listed, mayReturn}
 use Rattle.codes.specs.Problems.{problemTag}
 use Rattle.parameters.specs.Suits.{suits, InvokeReceived, ResultReceived}
 use Rattle.places.specs.Places.{misplaced, octetIn, single, parameter, invokePlaces, coded, rejected}
@@ -162,7 +162,7 @@ result-told e id o p = told (among id (e .own)) _ _ refl (told (isOurs o (operat
 
 error-told : (e : Entry) (id : ℤ) (code : ℕ) → Told (judgeError e id code)
 unfolding judgeError
-error-told e id code = told (among id (e .own)) _ _ refl (told (listed code) _ _ refl tt)
+error-told e id code = told (among id (e .own)) _ _ refl (told (listed code) _ _ refl (told (mayReturn (operationOf id (e .own)) code) _ _ refl tt))
 
 abbrev pub Tells : Decision → Type 0
 Tells (silent code) = Unit {0}
@@ -184,7 +184,7 @@ six-tells e (error id k p) r = judged-tells (judgeError e id k) id (error id k p
 six-tells e (reject id tag n) r = tt
 
 general-listed : (n : ℕ) → leb n 2 ≡ true → isProblem 0x80 n ≡ true
-general-listed n h = ap (λ (b : Bool). b || false || false) h
+general-listed n h = ap (λ (b : Bool). b || false || false || false) h
 
 five-tells : (e : Entry) (f : Finding) (r : List ℕ) → FindingLow f → Tells (fiveAndSix e f r)
 unfolding fiveAndSix

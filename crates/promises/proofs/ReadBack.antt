@@ -33,6 +33,7 @@ use Rattle.telephone.proofs.OutcomeLaws.{front-is}
 use Rattle.telephone.proofs.Shown.{some-inj}
 use Rattle.promises.specs.ReadBack.{ComponentReadsBack, Carries, CallReadsBack, Demand2}
 use Rattle.promises.proofs.CallFacts.{Fine, fine-begin, fine-invoke, fine-result, fine-error, transaction-is}
+use Rattle.promises.proofs.ErrorLists.{error-lists}
 use Rattle.promises.proofs.RejectBack.{reject-reads-back}
 
 -- one element, and nothing behind it, is a parameter
@@ -197,4 +198,4 @@ call-reads-back t b p flag value operation code id i =
     )
 
 pub demand-2 : Demand2
-demand-2 = (component-reads-back, (call-reads-back, reject-reads-back))
+demand-2 = (component-reads-back, (call-reads-back, (reject-reads-back, error-lists)))

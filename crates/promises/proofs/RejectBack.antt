@@ -26,7 +26,7 @@ use Rattle.components.specs.Facility.{Finding, empty, shows, general, leftOver,
 use Rattle.components.specs.Written.{IsSomeId, componentOctets}
 use Rattle.components.proofs.ReadBack.{read-back}
 use Rattle.codes.specs.Operations.{serves}
-use Rattle.codes.specs.Errors.{listed}
+use Rattle.codes.specs.Errors.{listed, mayReturn}
 use Rattle.parameters.specs.Suits.{suits, InvokeReceived, ResultReceived}
 use Rattle.messages.specs.Layout.{registerType, mandatoryMissing, mandatory, releaseFacility}
 use Rattle.messages.specs.Scan.{clear, required}
@@ -175,7 +175,7 @@ result-tagged e id o p = tagged (among id (e .own)) _ _ refl (tagged (isOurs o (
 
 error-tagged : (e : Entry) (id : ℤ) (code : ℕ) → Tagged (judgeError e id code)
 unfolding judgeError
-error-tagged e id code = tagged (among id (e .own)) _ _ refl (tagged (listed code) _ _ refl tt)
+error-tagged e id code = tagged (among id (e .own)) _ _ refl (tagged (listed code) _ _ refl (tagged (mayReturn (operationOf id (e .own)) code) _ _ refl tt))
 
 -- a decision to send a Reject that can be written
 abbrev Rejects : Decision → Type 0

@@ -7,7 +7,8 @@ use Rattle.octets.specs.OneAnswer.{Exact}
 use Rattle.promises.specs.Determined.{Determined}
 use Rattle.promises.specs.Worked.{Worked, W1Received}
 use Rattle.promises.specs.Editions.{Editions}
+use Rattle.promises.specs.ErrorCases.{ErrorCases}
 use Rattle.promises.specs.NeverDamaged.{NeverDamaged}
 
 abbrev pub All : Type 1
-All = Demand1 × (Demand2 × (Demand3 × (PartsStand × (Exact × (Determined × (Worked × (W1Received × (Editions × NeverDamaged))))))))
+All = Demand1 × (Demand2 × (Demand3 × (PartsStand × (Exact × (Determined × (Worked × (W1Received × (Editions × (ErrorCases × NeverDamaged)))))))))

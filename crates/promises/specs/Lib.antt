@@ -1,4 +1,6 @@
 pub mod OneVerdict
+pub mod Reaches
+pub mod ErrorLists
 pub mod ReadBack
 pub mod Unrecognized
 pub mod LaterEdition
@@ -6,5 +8,6 @@ pub mod Parts
 pub mod Determined
 pub mod Worked
 pub mod Editions
+pub mod ErrorCases
 pub mod NeverDamaged
 pub mod All

@@ -40,12 +40,13 @@ abbrev pub sendsNothing : ℕ → Bool
 sendsNothing code = eqb code 1 || eqb code 6 || eqb code 7 || eqb code 27 || eqb code 28
 
 -- "A Reject that we read may carry any problem octet; we write only those below": the problems of steps 5 and 6, general 0 to
--- 2; invoke 0 to 3 and 5 to 7; result and error 0 and 2
+-- 2; invoke 0 to 3 and 5 to 7; result 0 and 2; error 0, 2 and 3
 abbrev pub isProblem : ℕ → ℕ → Bool
 isProblem tag number =
     (eqb tag generalProblem && leb number 2)
     || (eqb tag invokeProblem && (leb number 3 || (leb 5 number && leb number 7)))
-    || ((eqb tag resultProblem || eqb tag errorProblem) && (eqb number 0 || eqb number 2))
+    || (eqb tag resultProblem && (eqb number 0 || eqb number 2))
+    || (eqb tag errorProblem && (eqb number 0 || eqb number 2 || eqb number 3))
 
 -- and the causes of steps 2 to 5
 abbrev pub isCause : ℕ → Bool

@@ -1,0 +1,41 @@
+-- What reaches step 6 is decided by it.
+use Prim.Native.Nat.{ℕ}
+use mathlib.Core.Path.{_≡_, _∙_}
+use mathlib.Core.List.{List}
+use lib.ListN.{length, drop}
+use borrow.Author.Tests.{le-leb, eq-eqb, ne-eqb}
+use Rattle.components.specs.Component.{Component}
+use Rattle.messages.specs.Layout.{discriminator, value}
+use Rattle.messages.specs.Scan.{firstTaken}
+use Rattle.table.specs.Table.{entryAt}
+use Rattle.deciding.specs.Decision.{released, shownBy}
+use Rattle.deciding.specs.Steps.{firstOctet, pickedEntry, exceptInvoke, stepSix, fiveAndSix, fourToSix, onRelease, decide}
+use Rattle.deciding.proofs.StepLaws.{onType, GoesOn, further, decide-further}
+use Rattle.promises.specs.Reaches.{Arrives, Passes, inRegister, inFacility, ReachesStepSix, ReachesInRelease}
+
+module _ (t m b : List ℕ) where
+  tests : Arrives t m b → GoesOn t (length b) m
+  tests a =
+      record {
+        table = a .image;
+        room = le-leb 12 (length b) (a .room);
+        most = le-leb (length m) 255 (a .most);
+        least = le-leb 2 (length m) (a .least);
+        protocol = eq-eqb (discriminator (firstOctet m)) 11 (a .protocol);
+        transaction = ne-eqb (value (firstOctet m)) 7 (a .transaction);
+      }
+
+  passes-on : (type : ℕ) → Passes t m type → further t m ≡ fourToSix (entryAt t (pickedEntry m)) type (drop 2 m)
+  unfolding onType
+  passes-on type (inRegister a f o) = rw (a, f, o)
+  passes-on type (inFacility a o) = rw (a, o)
+
+  module _ (c : Component) where
+    pub reached : (r : ReachesStepSix t m b c) → decide t m (length b) ≡ stepSix (entryAt t (pickedEntry m)) c (r .behind)
+    unfolding fourToSix fiveAndSix
+    reached r = decide-further t m (length b) (tests (r .arrives)) ∙ passes-on (r .type) (r .passes) ∙ rw (r .facilityRead, r .componentRead)
+
+    pub released-at : (r : ReachesInRelease t m b c)
+        → decide t m (length b) ≡ released (exceptInvoke (shownBy (stepSix (entryAt t (pickedEntry m)) c (r .behind)))) (firstTaken 0x08 (drop 2 m))
+    unfolding onType onRelease fiveAndSix
+    released-at r = decide-further t m (length b) (tests (r .arrives)) ∙ rw (r .isRelease, r .isOpen, r .facilityRead, r .componentRead)

@@ -1,0 +1,58 @@
+-- "An error that is in 01's table but isn't in the list of the outstanding operation is now refused. Demand 2 reads with this
+-- check." "error problem 3, in step 6 directly after error problem 2"
+use Prim.Native.Nat.{ℕ}
+use mathlib.Core.Path.{_≡_}
+use mathlib.Core.List.{List}
+use mathlib.Core.Bool.{Bool, true, false, _||_}
+use mathlib.Core.Option.{some}
+use lib.IntN.{ℤ}
+use lib.Dec.{eqb}
+use Rattle.codes.specs.Errors.{listed, errorsOf, isIn}
+use Rattle.codes.specs.Problems.{errorProblem}
+use Rattle.components.specs.Component.{Component, error}
+use Rattle.table.specs.Table.{Waiting, entryAt}
+use Rattle.judging.specs.StepSix.{among, operationOf}
+use Rattle.deciding.specs.Steps.{pickedEntry}
+use Rattle.telephone.specs.Outcome.{Outcome}
+use Rattle.telephone.specs.Receive.{receive}
+use Rattle.promises.specs.Reaches.{ReachesStepSix, ReachesInRelease, rejected, releasedSilently}
+
+-- what we have outstanding in the message's transaction, as the table has it before
+abbrev pub outstanding : List ℕ → List ℕ → List Waiting
+outstanding t m = entryAt t (pickedEntry m) .own
+
+-- the list of the operation that is outstanding under this id
+abbrev pub itsErrors : List ℕ → List ℕ → ℤ → List ℕ
+itsErrors t m id = errorsOf (operationOf id (outstanding t m))
+
+-- this verdict, with this component shown
+abbrev pub ShowsWith : ℕ → Component → List ℕ → Outcome → Type 0
+ShowsWith verdict c behind o = (o .code ≡ verdict) × (o .shown ≡ some (record { component = c; behind = behind }))
+
+-- taken, or released by the network
+abbrev pub takenOrReleased : ℕ → Bool
+takenOrReleased verdict = eqb verdict 0 || eqb verdict 5
+
+-- an error that is shown was taken, or came with a release; its id was outstanding, and its code is in that list
+abbrev pub ShownIsInList : Type 0
+ShownIsInList =
+    (t m b : List ℕ) (id : ℤ) (code : ℕ) (p behind : List ℕ) → receive t m b .shown ≡ some (record { component = error id code p; behind = behind })
+    → (takenOrReleased (receive t m b .code) ≡ true) × ((among id (outstanding t m) ≡ true) × (isIn code (itsErrors t m id) ≡ true))
+
+-- an error under an outstanding id, of a code that is in 01's table and not in that list, is rejected with error problem 3; in
+-- RELEASE COMPLETE nothing is shown
+abbrev pub OthersAreRefused : Type 0
+OthersAreRefused =
+    (t m b : List ℕ) (id : ℤ) (code : ℕ) (p : List ℕ) → among id (outstanding t m) ≡ true → listed code ≡ true → isIn code (itsErrors t m id) ≡ false
+    → (ReachesStepSix t m b (error id code p) → receive t m b ≡ rejected t m b id errorProblem 3)
+    × (ReachesInRelease t m b (error id code p) → receive t m b ≡ releasedSilently t m b)
+
+-- and one of a code that is in that list is shown: taken, or with the release
+abbrev pub ItsOwnAreShown : Type 0
+ItsOwnAreShown =
+    (t m b : List ℕ) (id : ℤ) (code : ℕ) (p : List ℕ) → among id (outstanding t m) ≡ true → isIn code (itsErrors t m id) ≡ true
+    → ((r : ReachesStepSix t m b (error id code p)) → ShowsWith 0 (error id code p) (r .behind) (receive t m b))
+    × ((r : ReachesInRelease t m b (error id code p)) → ShowsWith 5 (error id code p) (r .behind) (receive t m b))
+
+abbrev pub ErrorLists : Type 0
+ErrorLists = ShownIsInList × (OthersAreRefused × ItsOwnAreShown)

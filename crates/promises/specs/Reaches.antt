@@ -1,0 +1,85 @@
+-- "that reaches step 6 of 01": what the table, the buffer and the message must be, step by step.
+use Prim.Native.Nat.{ℕ, _≤_}
+use mathlib.Core.Path.{_≡_}
+use mathlib.Core.List.{List}
+use mathlib.Core.Bool.{true, false}
+use mathlib.Core.Option.{none, some}
+use lib.IntN.{ℤ}
+use lib.ListN.{length, getD, drop}
+use Rattle.octets.specs.Reader.{took}
+use Rattle.octets.specs.Splice.{splice}
+use Rattle.components.specs.Component.{Component, reject}
+use Rattle.components.specs.Facility.{shows, facility}
+use Rattle.components.specs.Written.{componentOctets}
+use Rattle.messages.specs.Layout.{discriminator, value, flag, registerType, facilityType, releaseType, releaseFacility}
+use Rattle.messages.specs.Scan.{required, firstTaken}
+use Rattle.table.specs.Table.{entryAt, closed, valid, withEntry}
+use Rattle.deciding.specs.Steps.{firstOctet, pickedEntry, replyFirst}
+use Rattle.telephone.specs.Outcome.{Outcome}
+
+-- 28 and 27, step 1, and step 2's value 7
+pub record Arrives (t m b : List ℕ) : Type 0 where
+  pub image : valid t ≡ true
+  pub room : 12 ≤ length b
+  pub most : length m ≤ 255
+  pub least : 2 ≤ length m
+  pub protocol : discriminator (firstOctet m) ≡ 11
+  pub transaction : value (firstOctet m) ≡ 7 → ⊥
+
+-- "In REGISTER or FACILITY": of its type, and with its entry as steps 2 and 3 want it
+pub data Passes (t m : List ℕ) : ℕ → Type 0 where
+  inRegister : getD m 1 0 ≡ registerType → flag (firstOctet m) ≡ 0 → entryAt t (pickedEntry m) .isOpen ≡ false → Passes t m registerType
+  inFacility : getD m 1 0 ≡ facilityType → entryAt t (pickedEntry m) .isOpen ≡ true → Passes t m facilityType
+
+pub record ReachesStepSix (t m b : List ℕ) (c : Component) : Type 0 where
+  -- 1.
+  pub arrives : Arrives t m b
+  -- 2. and 3.
+  pub type : ℕ
+  pub passes : Passes t m type
+  -- 4.
+  pub facilityValue : List ℕ
+  pub behind : List ℕ
+  pub facilityRead : required type (drop 2 m) ≡ took facilityValue behind
+  -- 5.
+  pub componentRead : facility facilityValue ≡ shows c
+
+-- "Steps 5 and 6 run for RELEASE COMPLETE too"
+pub record ReachesInRelease (t m b : List ℕ) (c : Component) : Type 0 where
+  pub arrives : Arrives t m b
+  pub isRelease : getD m 1 0 ≡ releaseType
+  pub isOpen : entryAt t (pickedEntry m) .isOpen ≡ true
+  pub facilityValue : List ℕ
+  pub behind : List ℕ
+  pub facilityRead : firstTaken 0x1C (drop 2 m) ≡ some (record { value = facilityValue; rest = behind })
+  pub componentRead : facility facilityValue ≡ shows c
+
+-- "released with Reject": a release with a Reject of this id and problem
+abbrev pub rejection : List ℕ → ℤ → ℕ → ℕ → List ℕ
+rejection m id tag number = releaseFacility (replyFirst m) (componentOctets (reject (some id) tag number))
+
+-- verdict 3, that release sent and nothing else written, nothing shown, and the entry closed
+abbrev pub rejected : List ℕ → List ℕ → List ℕ → ℤ → ℕ → ℕ → Outcome
+rejected t m b id tag number =
+    record {
+      code = 3;
+      written = length (rejection m id tag number);
+      value = 0;
+      shown = none;
+      cause = none;
+      buffer = splice b 0 (rejection m id tag number);
+      table = withEntry t (pickedEntry m) closed;
+    }
+
+-- verdict 5, nothing sent or written, nothing shown but the contents of the 08, and the entry closed
+abbrev pub releasedSilently : List ℕ → List ℕ → List ℕ → Outcome
+releasedSilently t m b =
+    record {
+      code = 5;
+      written = 0;
+      value = 0;
+      shown = none;
+      cause = firstTaken 0x08 (drop 2 m);
+      buffer = b;
+      table = withEntry t (pickedEntry m) closed;
+    }
