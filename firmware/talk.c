@@ -65,6 +65,69 @@ static void test_values(void)
     check(c.code == 0 && c.value == 3, "values", "taken again");
 }
 
+/* The errors that each operation may return, in the order of its list, and a parameter
+ * for it; the codes of the whole table. */
+static const struct {
+    uint8_t operation, errors[16];
+    size_t length;
+    uint8_t parameter[8];
+} operations[] = {
+    {10, {34, 35, 36, 10, 11, 13, 16, 17, 20}, 2, {0x05, 0x00}},
+    {11, {34, 35, 36, 10, 11, 13, 16, 17}, 5, {0x30, 0x03, 0x04, 0x01, 0x21}},
+    {12, {34, 35, 36, 10, 11, 13, 16, 17, 19, 20, 38, 43}, 5, {0x30, 0x03, 0x04, 0x01, 0x21}},
+    {13, {34, 35, 36, 10, 11, 13, 16, 17, 19, 38, 43}, 5, {0x30, 0x03, 0x04, 0x01, 0x21}},
+    {14, {34, 35, 36, 10, 11, 13, 16, 18}, 5, {0x30, 0x03, 0x04, 0x01, 0x21}},
+    {17, {34, 35, 36, 13, 19, 37, 38, 43}, 3, {0x04, 0x01, 0x92}},
+    {59, {34, 35, 36, 71, 13}, 8, {0x30, 0x06, 0x04, 0x01, 0x0F, 0x04, 0x01, 0x41}},
+};
+static const uint8_t codes[] = {1,  9,  10, 11, 12, 13, 16, 17, 18, 19, 20,
+                                21, 27, 34, 35, 36, 37, 38, 43, 71, 72};
+
+/* We begin an operation, and this code comes back as its error: in FACILITY, or with a
+ * release. What is left of the table, and of the reply. */
+static smr_received answer_with(size_t k, bool end, uint8_t code, uint8_t *table, uint8_t *reply)
+{
+    uint8_t out[SMR_MESSAGE];
+    uint8_t error[] = {0x8B, 0x2A, 0x1C, 0x08, 0xA3, 0x06, 0x02, 0x01, 0x80, 0x02, 0x01, code};
+    memset(table, 0, SMR_TABLE);
+    smr_called c = smr_begin(table, SMR_TABLE, operations[k].operation, -128,
+                             operations[k].parameter, operations[k].length, out, sizeof out);
+    if (c.code != 0) check(false, "errors", "begun");
+    if (end) return smr_receive(table, SMR_TABLE, error, sizeof error, reply, SMR_REPLY);
+    error[1] = 0x8B; /* the same without its 1C */
+    error[2] = 0x3A;
+    return smr_receive(table, SMR_TABLE, error + 1, sizeof error - 1, reply, SMR_REPLY);
+}
+
+/* Each operation, each code: taken and shown if its list has it, else refused. */
+static void test_errors(void)
+{
+    static const uint8_t none[SMR_TABLE];
+    uint8_t table[SMR_TABLE], reply[SMR_REPLY];
+    for (size_t k = 0; k < sizeof operations / sizeof *operations; k++) {
+        bool taken = true, refused = true, ended = true;
+        for (int code = 0; code < 256; code++) {
+            bool fits = code != 0 && memchr(operations[k].errors, code, sizeof operations[k].errors);
+            uint8_t problem = memchr(codes, code, sizeof codes) ? 3 : 2;
+            smr_received r = answer_with(k, false, (uint8_t)code, table, reply);
+            if (fits)
+                taken = taken && r.code == SMR_TAKEN && r.shown.kind == SMR_ERROR &&
+                        r.shown.code == code && r.shown.id == -128 && r.written == 0 && table[0] == 1;
+            else
+                refused = refused && r.code == SMR_RELEASED_REJECT && r.written == 12 &&
+                          reply[9] == SMR_PROBLEM_ERROR && reply[11] == problem &&
+                          r.shown.kind == SMR_NOTHING && memcmp(table, none, sizeof none) == 0;
+            r = answer_with(k, true, (uint8_t)code, table, reply);
+            ended = ended && r.code == SMR_RELEASED && r.written == 0 &&
+                    r.shown.kind == (fits ? SMR_ERROR : SMR_NOTHING) &&
+                    memcmp(table, none, sizeof none) == 0;
+        }
+        check(taken, "errors", "of its list: taken");
+        check(refused, "errors", "of no list: refused");
+        check(ended, "errors", "with a release");
+    }
+}
+
 /* NULL with length 0, everywhere. */
 static void test_nothing(void)
 {
@@ -146,6 +209,7 @@ int main(void)
 {
     test_menu();
     test_values();
+    test_errors();
     test_nothing();
     test_noise();
     return checks_done();

@@ -76,9 +76,29 @@ extern "C" {
  *   60 3C unstructuredSS-Request        USSD-Arg           USSD-Res or none
  *   61 3D unstructuredSS-Notify         USSD-Arg           none
  *
- * An error, ours or the peer's, has one element or none and one of the codes
+ * An error has one element or none. One that we send has one of the codes
  * 1, 9 to 13, 16 to 21, 27, 34 to 38, 43, 71, 72
  * (hex 01, 09 to 0D, 10 to 15, 1B, 22 to 26, 2B, 47, 48).
+ * One that is shown has a code that the operation we asked for may return:
+ *
+ *   10 registerSS                    10 11 13 16 17 20 34 35 36
+ *   11 eraseSS                       10 11 13 16 17 34 35 36
+ *   12 activateSS                    10 11 13 16 17 19 20 34 35 36 38 43
+ *   13 deactivateSS                  10 11 13 16 17 19 34 35 36 38 43
+ *   14 interrogateSS                 10 11 13 16 18 34 35 36
+ *   17 registerPassword              13 19 34 35 36 37 38 43
+ *   59 processUnstructuredSS-Request 13 34 35 36 71
+ *
+ *   10 0A bearerServiceNotProvisioned  34 22 systemFailure
+ *   11 0B teleserviceNotProvisioned    35 23 dataMissing
+ *   13 0D callBarred                   36 24 unexpectedDataValue
+ *   16 10 illegalSS-Operation          37 25 pw-RegistrationFailure
+ *   17 11 ss-ErrorStatus               38 26 negativePW-Check
+ *   18 12 ss-NotAvailable              43 2B numberOfPW-AttemptsViolation
+ *   19 13 ss-SubscriptionViolation     71 47 unknownAlphabet
+ *   20 14 ss-Incompatibility
+ *
+ * Any other error is refused: the reply is a release with a Reject.
  *
  * The parameters, in hex; ll is the length of the contents behind it, 00 to 7F,
  * or 81 and one octet for more:

@@ -98,7 +98,7 @@ static void make_message(const step *s)
         wrap(0x30);
         put(3, (uint8_t[]){0x02, 0x01, QUESTION});
     } else {
-        put(6, (uint8_t[]){0x02, 0x01, QUESTION, 0x02, 0x01, 17});
+        put(6, (uint8_t[]){0x02, 0x01, QUESTION, 0x02, 0x01, 34}); /* systemFailure */
     }
     wrap(s->kind);
     put(1, (uint8_t[]){(uint8_t)length});
