@@ -1,10 +1,10 @@
 use borrow.Author.Needs.{needs}
 use mathlib.Core.Path.{_≡_, refl, sym, _∙_}
 use mathlib.Core.Bool.{true, false}
-use Rattle.codes.specs.Errors.{listed, mayReturn}
+use Rattle.codes.specs.Errors.{listed}
 use borrow.Author.Tests.{not-true, not-false}
 use Rattle.table.specs.Seen.{invokeSeen}
-use Rattle.judging.specs.StepSix.{judgeError}
+use Rattle.judging.specs.StepSix.{among, operationOf, judgeError}
 use Rattle.judging.proofs.Paths.{among-is, operation-is, cleared}
 use Rattle.judging.proofs.judge_error.Statement.{statement}
 use Rattle.judging.proofs.judge_error.Tie as tie
@@ -37,29 +37,30 @@ waiting-operation-requires c κs = search needs
 may-return-requires : tie.Need-may-return-requires
 may-return-requires c κs = search needs
 
+-- an error of the table under an outstanding id, and the operation that waits there
+asked-of : (c : tie.After-may-return)
+    → let a = c .before .before .before .before .before .before .args in
+    (among (a .id) (invokeSeen (a .slot .own)) ≡ true) × (listed (a .code) ≡ true) × (c .before .waiting-operation .result ≡ operationOf (a .id) (invokeSeen (a .slot .own)))
+asked-of c =
+    let i = c .before .before .before .before .before .before .fits .id in
+    let ws = invokeSeen (c .before .before .before .before .before .before .args .slot .own) in (
+      sym (among-is ws i (c .before .before .before .before .before .is-among .ensures)) ∙ not-false _ (c .before .before .before .before .if1 .left),
+      sym (c .before .before .before .is-listed .ensures) ∙ not-false _ (c .before .before .if2 .left),
+      operation-is ws i (c .before .waiting-operation .ensures),
+    )
+
 returns-3 : tie.Need-returns-3
 unfolding judgeError
 returns-3 c =
-    let a = c .before .before .before .before .before .before .before .args in
-    let i = c .before .before .before .before .before .before .before .fits .id in
-    let ws = invokeSeen (a .slot .own) in
-    let m = sym (among-is ws i (c .before .before .before .before .before .before .is-among .ensures)) ∙ not-false _ (c .before .before .before .before .before .if1 .left) in
-    let l : listed (a .code) ≡ true = sym (c .before .before .before .before .is-listed .ensures) ∙ not-false _ (c .before .before .before .if2 .left) in
-    let o = operation-is ws i (c .before .before .waiting-operation .ensures) in
-    let r : mayReturn (c .before .before .waiting-operation .result) (a .code) ≡ false = sym (c .before .may-return .ensures) ∙ not-true _ (c .if3 .taken) in
-    (rw (m, l, ← o, r), λ p. tt)
+    let w = asked-of (c .before) in
+    (rw (w .0, w .1, ← w .2, sym (c .before .may-return .ensures) ∙ not-true _ (c .if3 .taken)), λ p. tt)
 
 returns-4 : tie.Need-returns-4
 unfolding judgeError
 returns-4 c =
+    let w = asked-of (c .before) in
     let a = c .before .before .before .before .before .before .before .args in
-    let i = c .before .before .before .before .before .before .before .fits .id in
-    let ws = invokeSeen (a .slot .own) in
-    let m = sym (among-is ws i (c .before .before .before .before .before .before .is-among .ensures)) ∙ not-false _ (c .before .before .before .before .before .if1 .left) in
-    let l : listed (a .code) ≡ true = sym (c .before .before .before .before .is-listed .ensures) ∙ not-false _ (c .before .before .before .if2 .left) in
-    let o = operation-is ws i (c .before .before .waiting-operation .ensures) in
-    let r : mayReturn (c .before .before .waiting-operation .result) (a .code) ≡ true = sym (c .before .may-return .ensures) ∙ not-false _ (c .if3 .left) in
-    (rw (m, l, ← o, r, cleared (a .id) (a .slot .own) m), λ p. (refl, tt))
+    (rw (w .0, w .1, ← w .2, sym (c .before .may-return .ensures) ∙ not-false _ (c .if3 .left), cleared (a .id) (a .slot .own) (w .0)), λ p. (refl, tt))
 
 pub judge-error-spec : {M : Type 1} → statement M
 judge-error-spec =
