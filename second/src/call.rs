@@ -156,6 +156,7 @@ fn try_error(
     room: usize,
 ) -> Result<Done, Refusal> {
     let table = undamaged(image)?;
+    // Any listed code: the operations' own lists bind "received errors only".
     if !operation::is_error_code(code) {
         return Err(Refusal::NotListed);
     }

@@ -1,4 +1,5 @@
-//! A second program for the rules of 01, written from the papers alone.
+//! A second program for the rules of 01, with the requests of 02 that have landed,
+//! written from the papers alone.
 //!
 //! A whole message is parsed into owned values; a call returns an owned outcome
 //! and changes nothing that it was lent. `ffi` calls the proved archive.
@@ -7,6 +8,7 @@ pub mod bench;
 pub mod call;
 pub mod component;
 pub mod element;
+pub mod errors;
 pub mod ffi;
 pub mod message;
 pub mod operation;

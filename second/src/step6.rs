@@ -2,6 +2,7 @@
 
 use crate::component::{Answer, Component, Fault, Problem};
 use crate::element::Element;
+use crate::errors;
 use crate::operation;
 use crate::parameter::Text;
 use crate::table::{Open, Waiting};
@@ -114,11 +115,15 @@ fn result(entry: Open, id: i8, answer: Option<&Answer>) -> Result<(), u8> {
     }
 }
 
-/// "id, error problem 0; code not listed, 2"
+/// "id, error problem 0; code not listed, 2"; "directly after" it 3, where the code
+/// "isn't in the list of the outstanding operation"
 fn error(entry: Open, id: i8, code: u8) -> Result<(), u8> {
-    entry.own.filter(|own| own.id == id).ok_or(0)?;
-    match operation::is_error_code(code) {
+    let ours = entry.own.filter(|own| own.id == id).ok_or(0)?;
+    if !operation::is_error_code(code) {
+        return Err(2);
+    }
+    match errors::may_return(ours.operation, code) {
         true => Ok(()),
-        false => Err(2),
+        false => Err(3),
     }
 }

@@ -21,12 +21,13 @@ fn conversations() {
     let emulated = std::env::var_os("SMR_EMULATED").is_some();
     let share = if emulated { 3 } else { 1 };
     for seed in 1..=CONVERSATIONS / share {
-        occurrences.add(&compare(&conversation(seed)));
+        let talk = conversation(seed);
+        occurrences.add(&compare(&talk.input), &talk.met);
     }
     occurrences.check();
 }
 
-fn conversation(seed: u64) -> Vec<u8> {
+fn conversation(seed: u64) -> Talk {
     let mut c = Chance::new(7_919 * seed);
     let mut talk = Talk::default();
     while talk.lines < LINES {
@@ -37,29 +38,33 @@ fn conversation(seed: u64) -> Vec<u8> {
             6..=11 => short_of_room(&mut c, &mut talk),
             12 => talk.say(passed_over(&mut c)),
             13..=15 => {
-                let line = call(&mut c, &talk);
+                let line = line(&mut c, &talk);
                 talk.say(writing::spoiled(&mut c, &line));
             }
             16 if c.one_in(2) => talk.say(over(&mut c)),
-            17..=20 => rare_call(&mut c, &mut talk),
+            17..=22 => rare_call(&mut c, &mut talk),
             _ => one_call(&mut c, &mut talk),
         }
     }
-    talk.input
+    talk
 }
 
 /// A message or a call that suits the table more or less.
-fn call(c: &mut Chance, talk: &Talk) -> Vec<u8> {
-    let call = match c.below(5) {
+fn call(c: &mut Chance, talk: &Talk) -> Call {
+    match c.below(5) {
         0..=2 => Call::Receive(messages::message(c, talk.sound())),
         _ => wishes::call(c, talk.sound()),
-    };
+    }
+}
+
+fn line(c: &mut Chance, talk: &Talk) -> Vec<u8> {
+    let call = call(c, talk);
     writing::line(c, &call)
 }
 
 fn one_call(c: &mut Chance, talk: &mut Talk) {
-    let line = call(c, talk);
-    talk.say(line);
+    let call = call(c, talk);
+    talk.call(c, &call);
 }
 
 fn table(c: &mut Chance, image: &[u8]) -> Vec<u8> {
@@ -97,12 +102,12 @@ fn rare_call(c: &mut Chance, talk: &mut Talk) {
     let mut image = talk.sound().to_vec();
     let call = rare::call(c, &mut image);
     talk.say(table(c, &image));
-    talk.say(writing::line(c, &call));
+    talk.call(c, &call);
 }
 
 /// A buffer at the edge of what a call needs, or any other, then a long one.
 fn short_of_room(c: &mut Chance, talk: &mut Talk) {
-    let line = call(c, talk);
+    let line = line(c, talk);
     let answer = talk.answer_with_room(&line);
     let message = answer.split_once("message").unwrap_or_default().1;
     let edge = match message.split_whitespace().count() {

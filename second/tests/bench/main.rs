@@ -7,8 +7,12 @@
 mod call;
 #[path = "../compare/chance.rs"]
 mod chance;
+#[path = "../compare/codes.rs"]
+mod codes;
 #[path = "../compare/components.rs"]
 mod components;
+#[path = "../compare/errors.rs"]
+mod errors;
 #[path = "../compare/messages.rs"]
 mod messages;
 #[path = "../compare/notation.rs"]
@@ -25,6 +29,7 @@ mod tables;
 mod wishes;
 
 mod conversations;
+mod each_code;
 mod grammar;
 mod occurrences;
 mod proved;

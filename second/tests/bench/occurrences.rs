@@ -1,5 +1,6 @@
 //! What has been printed over a run, and what must be.
 
+use crate::errors;
 use std::collections::BTreeMap;
 
 #[derive(Default)]
@@ -59,31 +60,49 @@ const NAMED: &[&str] = &[
 ];
 
 impl Occurrences {
-    pub fn add(&mut self, output: &[u8]) {
+    /// What was printed, and what the errors met.
+    pub fn add(&mut self, output: &[u8], met: &[(&str, u8)]) {
         let output = std::str::from_utf8(output).expect("plain text");
         for line in output.lines() {
             match line {
                 // The end of an answer.
                 "" => self.answers += 1,
-                _ => *self.counts.entry(kind(line)).or_default() += 1,
+                _ => self.count(kind(line)),
             }
         }
+        for (name, number) in met {
+            self.count(format!("{name} {number}"));
+        }
+    }
+
+    fn count(&mut self, name: String) {
+        *self.counts.entry(name).or_default() += 1;
     }
 
     /// Every one often enough, and no other.
     pub fn check(&self) {
-        for name in NAMED {
-            let count = self.counts.get(*name).copied().unwrap_or(0);
+        let printed = NAMED.iter().map(|name| name.to_string());
+        let named: Vec<String> = printed.chain(of_errors()).collect();
+        for name in &named {
+            let count = self.counts.get(name).copied().unwrap_or(0);
             println!("{name}: {count}");
             if count * ANSWERS < self.answers {
                 println!("| {name}: only {count}");
                 panic!("too few");
             }
         }
-        let mut names = self.counts.keys();
-        let known = names.all(|name| NAMED.contains(&name.as_str()));
+        let known = self.counts.keys().all(|name| named.contains(name));
         assert!(known, "a line that bench.md doesn't name");
     }
+}
+
+/// What errors must meet, each number for itself.
+fn of_errors() -> impl Iterator<Item = String> {
+    let each = |(name, numbers): (&'static str, &'static [u8])| {
+        let numbers = numbers.iter();
+        numbers.map(move |number| format!("{name} {number}"))
+    };
+    errors::MET.into_iter().flat_map(each)
 }
 
 fn kind(line: &str) -> String {

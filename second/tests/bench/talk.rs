@@ -1,11 +1,20 @@
 //! An input as it grows, with the table that it leads to.
 
+use crate::call::Call;
+use crate::chance::Chance;
+use crate::errors;
+use crate::writing;
 use second::bench::Bench;
 use second::table::Table;
+
+/// The least reply buffer with which a message is read.
+const LEAST_ROOM: usize = 12;
 
 pub struct Talk {
     pub input: Vec<u8>,
     pub lines: usize,
+    /// What the errors met that were received.
+    pub met: Vec<(&'static str, u8)>,
     bench: Bench,
     /// The last table that wasn't damaged.
     sound: Vec<u8>,
@@ -17,6 +26,7 @@ impl Default for Talk {
         Talk {
             input: Vec::new(),
             lines: 0,
+            met: Vec::new(),
             sound: bench.table().to_vec(),
             bench,
         }
@@ -35,6 +45,15 @@ impl Talk {
         if Table::decode(self.table()).is_some() {
             self.sound = self.table().to_vec();
         }
+    }
+
+    /// A call's line.
+    pub fn call(&mut self, c: &mut Chance, call: &Call) {
+        let line = writing::line(c, call);
+        if let (Call::Receive(message), LEAST_ROOM..) = (call, self.room()) {
+            self.met.extend(errors::met(self.table(), message));
+        }
+        self.say(line);
     }
 
     pub fn table(&self) -> &[u8] {

@@ -15,6 +15,15 @@ tail
 
 ";
 
+const ERASE: &str = "begin 11 1 3003040111";
+const ERASE_ANSWER: &str = "\
+done 0
+value 0
+message 0B 3B 1C 0D A1 0B 02 01 01 02 01
+ 0B 30 03 04 01 11 7F 01 00
+
+";
+
 /// Lines, and their answers.
 const WORKED: &[(&[&str], &[&str])] = &[
     // W1
@@ -159,6 +168,75 @@ message 0B 3B 1C 0A A1 08 02 01 01 02 01
             "verdict 0 taken\nerror -128\ncode 17\nparameter 05 00\n\n",
             "verdict 4 reject received\nreject -1\nproblem 81 255\nreply 0B 2A\n\n",
             "verdict 4 reject received\nreject none\nproblem 80 0\nreply 8B 2A\n\n",
+        ],
+    ),
+    // Errors to eraseSS: systemFailure, which it may return; ussd-Busy, which it may
+    // not; another id; a code that isn't listed; a fault behind the code.
+    (
+        &[
+            ERASE,
+            "receive 8B3A08A306020101020122",
+            "release 1 0",
+            ERASE,
+            "receive 8B3A08A306020101020148",
+            ERASE,
+            "receive 8B3A08A306020102020148",
+            ERASE,
+            "receive 8B3A08A306020101020102",
+            ERASE,
+            "receive 8B3A09A30702010102014805",
+        ],
+        &[
+            ERASE_ANSWER,
+            "verdict 0 taken\nerror 1\ncode 34\n\n",
+            "done 0\nmessage 0B 2A\n\n",
+            ERASE_ANSWER,
+            "\
+verdict 3 reject sent
+reply 0B 2A 1C 08 A4 06 02 01 01 83 01
+ 03
+
+",
+            ERASE_ANSWER,
+            "\
+verdict 3 reject sent
+reply 0B 2A 1C 08 A4 06 02 01 02 83 01
+ 00
+
+",
+            ERASE_ANSWER,
+            "\
+verdict 3 reject sent
+reply 0B 2A 1C 08 A4 06 02 01 01 83 01
+ 02
+
+",
+            ERASE_ANSWER,
+            "\
+verdict 3 reject sent
+reply 0B 2A 1C 08 A4 06 02 01 01 80 01
+ 02
+
+",
+        ],
+    ),
+    // The same two in RELEASE COMPLETE; ussd-Busy as our own error to W1.
+    (
+        &[
+            ERASE,
+            "receive 8B2A1C08A306020101020122",
+            ERASE,
+            "receive 8B2A1C08A306020101020148",
+            W1,
+            "error 0 0 5 72",
+        ],
+        &[
+            ERASE_ANSWER,
+            "verdict 5 network released\nerror 1\ncode 34\n\n",
+            ERASE_ANSWER,
+            "verdict 5 network released\n\n",
+            W1_ANSWER,
+            "done 0\nmessage 8B 3A 08 A3 06 02 01 05 02 01 48\n\n",
         ],
     ),
     // Causes, with octets and without; a text in a release.

@@ -41,9 +41,11 @@ const CORPUS: &[(&str, &str, u8)] = &[
     ("own10", "8B3A05A203020101", 0),
     ("own10", "8B3A0CA20A020101300502010A1000", 0),
     ("own10", "8B3A0FA20D020101300802010AA003800101", 0),
-    // Errors and Rejects.
-    ("own59", "8B3A08A306020101020111", 0),
-    ("own10", "8B3A0AA3080201010201470500", 0),
+    // Errors of the operation's list and of another's, and Rejects.
+    ("own59", "8B3A08A306020101020147", 0),
+    ("own59", "8B3A08A306020101020111", 3),
+    ("own10", "8B3A0AA3080201010201140500", 0),
+    ("own10", "8B3A0AA3080201010201470500", 3),
     ("own59", "8B3A08A406020101820102", 4),
     ("open", "0B3A07A4050500800100", 4),
     ("open", "0B3A08A4060581008001FF", 4),
@@ -57,6 +59,7 @@ const CORPUS: &[(&str, &str, u8)] = &[
         5,
     ),
     ("own59", "8B2A A1 0F0100 080101 1C08A306020101020109 08", 5),
+    ("own12", "8B2A A1 0F0100 080101 1C08A306020101020113 08", 5),
     ("own59", "8B2A1C08A406020101820102 A1 7F09", 5),
     ("own17", "8B2A1C10A20E02010130090201111204 31323334", 5),
     ("w1", "0B2A0802E09D1C10A10E02010502013C300604010F040141", 5),
@@ -151,8 +154,8 @@ fn change(is_wanted: impl Fn(&[u8]) -> bool) {
 #[test]
 fn corpus_from_every_table() {
     let names = [
-        "fresh", "w1", "open", "peer61", "peer18", "own59", "own17", "own10", "ownopen", "both17",
-        "other17", "full", "damaged", "short", "crowded",
+        "fresh", "w1", "open", "peer61", "peer18", "own59", "own17", "own10", "own11", "own12",
+        "own13", "own14", "ownopen", "both17", "other17", "full", "damaged", "short", "crowded",
     ];
     for table in names.map(tables::named) {
         for (_, message, _) in CORPUS {

@@ -1,6 +1,7 @@
 //! Facility values and components by chance, near an entry of the table.
 
 use crate::chance::Chance;
+use crate::codes;
 use crate::parameters as p;
 use crate::tables::{self, STATE_OWN, STATE_PEER};
 
@@ -113,8 +114,13 @@ fn result(c: &mut Chance, entry: [u8; 5]) -> Vec<Vec<u8>> {
 }
 
 fn error(c: &mut Chance, entry: [u8; 5]) -> Vec<Vec<u8>> {
-    let id = near(c, entry[1]);
-    let code = code(c);
+    let [_, own_id, own_operation, ..] = entry;
+    let id = near(c, own_id);
+    let code = match c.below(6) {
+        0..=2 => codes::listed(c, own_operation, true),
+        3 => codes::listed(c, own_operation, false),
+        _ => code(c),
+    };
     vec![number(c, 0x02, id), number(c, 0x02, code), p::of_error(c)]
 }
 

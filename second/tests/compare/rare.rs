@@ -2,7 +2,9 @@
 
 use crate::call::{Call, Named};
 use crate::chance::Chance;
+use crate::codes;
 use crate::components::near;
+use crate::errors::{sent, FACILITY, RELEASE_COMPLETE};
 use crate::notation::any;
 use crate::parameters as p;
 use crate::tables;
@@ -12,11 +14,12 @@ const OPEN: [u8; 5] = [1, 0, 0, 0, 0];
 /// A rare call; the image is changed where the call needs it, and stays sound.
 pub fn call(c: &mut Chance, image: &mut [u8]) -> Call {
     let named = (c.below(2) as u8, c.below(7) as u8);
-    match c.below(5) {
+    match c.below(7) {
         0 => linked(c, image, named),
         1 => eighth(c, image),
         2 => too_long(c, image, named),
         3 => unlisted(c, image, named),
+        4..=5 => listed(c, image, named),
         _ => released(c, image, named),
     }
 }
@@ -79,9 +82,22 @@ fn too_long(c: &mut Chance, image: &mut [u8], named: Named) -> Call {
 fn unlisted(c: &mut Chance, image: &mut [u8], named: Named) -> Call {
     let own = tables::own(c);
     put(image, named, tables::open(Some(own), None));
-    let mut message = vec![head(named), 0x3A, 0x08, 0xA3, 0x06];
-    message.extend([0x02, 0x01, own[0], 0x02, 0x01, c.octet()]);
-    Call::Receive(message)
+    Call::Receive(sent(FACILITY, named, own[0], c.octet(), &[]))
+}
+
+/// An error that our invoke's operation may return, or one that it may not, or of any
+/// code; its id now and then another; mostly in a release.
+fn listed(c: &mut Chance, image: &mut [u8], named: Named) -> Call {
+    let own = tables::own(c);
+    let peer = c.flip().then(|| tables::peer(c));
+    put(image, named, tables::open(Some(own), peer));
+    let code = match c.below(3) {
+        0 => codes::listed(c, own[1], true),
+        1 => codes::listed(c, own[1], false),
+        _ => c.octet(),
+    };
+    let kind = c.pick(&[FACILITY, RELEASE_COMPLETE, RELEASE_COMPLETE]);
+    Call::Receive(sent(kind, named, near(c, own[0]), code, &[]))
 }
 
 /// A release with a cause, which is empty in every other.

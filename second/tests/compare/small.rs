@@ -9,6 +9,8 @@ use crate::tables;
 const OF_ELEMENTS: [u8; 10] = [0x00, 0x01, 0x02, 0x04, 0x05, 0x1F, 0x30, 0x80, 0x81, 0x82];
 /// Octets that make information elements.
 const OF_MESSAGES: [u8; 10] = [0x00, 0x01, 0x02, 0x08, 0x0F, 0x10, 0x1C, 0x7F, 0x80, 0xFF];
+/// Octets that make errors: of the lists of 10 and 11, of none, not in the table.
+const OF_ERRORS: [u8; 10] = [0x00, 0x01, 0x02, 0x05, 0x0A, 0x14, 0x1F, 0x22, 0x80, 0x81];
 /// Octets that make an SS-ForBS.
 const OF_SERVICES: [u8; 10] = [0x00, 0x01, 0x02, 0x04, 0x1F, 0x30, 0x81, 0x82, 0x83, 0x84];
 
@@ -52,7 +54,9 @@ const PLACES: &[Place] = &[
     ),
     ("own10", "8B3A", &[(0xA3, "")]),
     ("own10", "8B3A", &[(0xA3, "020101")]),
+    ("own10", "8B3A", &[(0xA3, "020101020114")]),
     ("own10", "8B3A", &[(0xA3, "020101020147")]),
+    ("own10", "8B2A1C", &[(0xA3, "020101020114")]),
     ("own59", "8B3A", &[(0xA4, "")]),
     ("own59", "8B3A", &[(0xA4, "020101")]),
     ("own59", "8B3A", &[(0xA4, "0500")]),
@@ -66,14 +70,28 @@ const PLACES: &[Place] = &[
 
 #[test]
 fn in_components() {
-    for (table, head, nest) in PLACES {
-        let (table, head) = (tables::named(table), octets(head));
-        each_row(&OF_ELEMENTS, |row| {
-            let value = nested(nest, row);
-            let message = [&head[..], &[value.len() as u8], &value].concat();
-            compare_message(&table, &message, 12 + row.len());
-        });
+    for place in PLACES {
+        at(place, &OF_ELEMENTS);
     }
+}
+
+#[test]
+fn in_errors() {
+    for table in ["own10", "own11"] {
+        for head in ["8B3A", "8B2A1C"] {
+            at(&(table, head, &[(0xA3, "020101")]), &OF_ERRORS);
+        }
+    }
+}
+
+/// Each row at this place.
+fn at((table, head, nest): &Place, alphabet: &[u8; 10]) {
+    let (table, head) = (tables::named(table), octets(head));
+    each_row(alphabet, |row| {
+        let value = nested(nest, row);
+        let message = [&head[..], &[value.len() as u8], &value].concat();
+        compare_message(&table, &message, 12 + row.len());
+    });
 }
 
 #[test]

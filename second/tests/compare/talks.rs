@@ -52,18 +52,18 @@ fn hold(c: &mut Chance, length: usize, tally: &mut Tally) {
     };
     for _ in 0..length {
         let call = match c.below(5) {
-            _ if c.one_in(40) => rare::call(c, &mut table),
+            _ if c.one_in(28) => rare::call(c, &mut table),
             0..=2 => Call::Receive(messages::message(c, &table)),
             _ => wishes::call(c, &table),
         };
         let room = room(c, &table, &call);
         if c.one_in(60) {
             let spoiled = tables::spoiled(c, &table);
-            tally.add(&call, &compare(&spoiled, &call, room));
+            tally.add(&spoiled, &call, &compare(&spoiled, &call, room));
             continue;
         }
         let facts = compare(&table, &call, room);
-        tally.add(&call, &facts);
+        tally.add(&table, &call, &facts);
         table = facts.table;
     }
 }

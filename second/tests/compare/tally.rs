@@ -1,6 +1,7 @@
 //! What has occurred over a run, and what must.
 
 use crate::both::{Call, Facts};
+use crate::errors;
 use std::collections::BTreeMap;
 
 #[derive(Default)]
@@ -20,18 +21,23 @@ const NAMED: [(&str, &[u8]); 8] = [
     ("general", &[0, 1, 2]),
     ("invoke", &[0, 1, 2, 3, 5, 6, 7]),
     ("result", &[0, 2]),
-    ("error", &[0, 2]),
+    ("error", &[0, 2, 3]),
     ("shown", &[0x00, 0xA1, 0xA2, 0xA3, 0xA4]),
 ];
 
 impl Tally {
-    pub fn add(&mut self, call: &Call, facts: &Facts) {
+    /// The call, from this table, and what it gave.
+    pub fn add(&mut self, table: &[u8], call: &Call, facts: &Facts) {
         self.calls += 1;
-        let is_received = matches!(call, Call::Receive(_));
-        match (facts.code(), is_received) {
+        match (facts.code(), call) {
             (code @ 20.., _) => self.count("refusal", code),
-            (code, true) => self.add_verdict(code, facts),
-            (code, false) => self.count("called", code),
+            (code, Call::Receive(message)) => {
+                self.add_verdict(code, facts);
+                for (name, number) in errors::met(table, message) {
+                    self.count(name, number);
+                }
+            }
+            (code, _) => self.count("called", code),
         }
         if facts.received.text.is_there != 0 {
             self.count("text", facts.received.shown.operation);
@@ -71,7 +77,7 @@ impl Tally {
 
     /// Every number that 01 names, often enough, and no other.
     pub fn check(&self) {
-        for (name, numbers) in NAMED {
+        for (name, numbers) in NAMED.into_iter().chain(errors::MET) {
             for number in numbers {
                 let count = self.counts.get(&(name, *number)).copied().unwrap_or(0);
                 if count * CALLS < self.calls {
