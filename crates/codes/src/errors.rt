@@ -269,7 +269,7 @@ pub fn is_listed(code: u8) -> bool
     LISTED[code as usize]
 }
 
-// What the lists of 10 to 14 share.
+// What the lists of 10 to 14 share: the seven errors that each begins with.
 fn is_shared(code: u8) -> bool
     ensures { λ r. ⌜ r ≡ isIn code (take 7 registerSS-Errors) ⌝ }
 {

@@ -2,13 +2,12 @@
 use Prim.Native.Nat.{ℕ}
 use mathlib.Core.Path.{_≡_, refl, ap, _∙_}
 use mathlib.Core.List.{List}
-use mathlib.Core.Bool.{Bool, true, false}
+use mathlib.Core.Bool.{true, false}
 use mathlib.Core.Option.{Option, none, some}
 use lib.IntN.{ℤ}
 use lib.ListN.{length, getD, drop}
 use Rattle.octets.specs.Reader.{Answer, fault, sound, Taken}
 use Rattle.octets.specs.Splice.{splice}
-use Rattle.octets.specs.Unless.{unless}
 use Rattle.codes.specs.Errors.{listed, mayReturn, errorsOf, isIn}
 use Rattle.codes.specs.Problems.{errorProblem}
 use Rattle.codes.proofs.ErrorLaws.{listed-too}
@@ -17,7 +16,7 @@ use Rattle.components.specs.Facility.{Finding, facility}
 use Rattle.messages.specs.Layout.{flag, facilityType, registerType}
 use Rattle.messages.specs.Scan.{required, firstTaken}
 use Rattle.table.specs.Table.{Entry, entryAt}
-use Rattle.judging.specs.StepSix.{problem, accepted, among, operationOf, withoutOwn, judgeError}
+use Rattle.judging.specs.StepSix.{among, operationOf, withoutOwn, judgeError}
 use Rattle.deciding.specs.Decision.{Decision, withReject, released, taken, shownBy}
 use Rattle.deciding.specs.Steps.{firstOctet, pickedEntry, stepFour, shown, onJudged, exceptInvoke, stepSix, fiveAndSix, fourToSix, inRelease, onRelease, decide}
 use Rattle.deciding.proofs.StepLaws.{by-type, tested}
@@ -25,6 +24,7 @@ use Rattle.telephone.specs.Receive.{verdictOf, act, receive}
 use Rattle.telephone.proofs.Shown.{nothing-shown, five-shows, except-shows}
 use Rattle.promises.specs.Reaches.{ReachesInRelease}
 use Rattle.promises.specs.ErrorLists.{ShowsWith, takenOrReleased, ShownIsInList, OthersAreRefused, ItsOwnAreShown, ErrorLists}
+use Rattle.promises.proofs.JudgedWalk.{walk-error}
 use Rattle.promises.proofs.Reached.{reached, released-at}
 
 module _ (e : Entry) (id : ℤ) (code : ℕ) (p : List ℕ) where
@@ -40,19 +40,9 @@ module _ (e : Entry) (id : ℤ) (code : ℕ) (p : List ℕ) where
     abbrev isShown : Decision → Type 0
     isShown d = shownBy d ≡ some (record { component = error id code p; behind = behind })
 
-    -- step 6 by its three tests
-    abbrev judged : List ℕ → Bool → Bool → Bool → Decision
-    judged r a l b = onJudged (unless a (problem errorProblem 0) (unless l (problem errorProblem 2) (unless b (problem errorProblem 3) (accepted (withoutOwn e id))))) id (error id code p) r
-
     six-good : (r : List ℕ) → isShown (stepSix e (error id code p) r) → Good (stepSix e (error id code p) r)
-    unfolding stepSix judgeError mayReturn
-    six-good r k = go (among id (e .own)) (listed code) (mayReturn (operationOf id (e .own)) code) refl refl refl k
-      where
-        go : (a l b : Bool) → among id (e .own) ≡ a → listed code ≡ l → mayReturn (operationOf id (e .own)) code ≡ b → isShown (judged r a l b) → Good (judged r a l b)
-        go true true true x y z h = (refl, (x, z))
-        go true true false x y z h = nothing-shown h
-        go true false b x y z h = nothing-shown h
-        go false l b x y z h = nothing-shown h
+    unfolding stepSix mayReturn
+    six-good r = walk-error (λ j. isShown (onJudged j id (error id code p) r) → Good (onJudged j id (error id code p) r)) (λ tag n h. nothing-shown) e id code (λ a y k. (refl, (a, y)))
 
     five-good : (f : Finding) (r : List ℕ) → isShown (fiveAndSix e f r) → Good (fiveAndSix e f r)
     unfolding fiveAndSix

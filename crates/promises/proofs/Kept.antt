@@ -2,26 +2,24 @@
 use Prim.Native.Nat.{ℕ, _+_, _<_}
 use mathlib.Core.Path.{_≡_, refl}
 use mathlib.Core.List.{List}
-use mathlib.Core.Bool.{Bool, true, false, cond, not, _&&_, false≢true}
-use mathlib.Core.Option.{Option, none, some}
+use mathlib.Core.Bool.{Bool, true, false, cond}
+use mathlib.Core.Option.{Option}
 use native.Mathlib.Omega.{arith}
 use lib.IntN.{ℤ}
 use lib.Dec.{eqb}
-use Rattle.octets.specs.Unless.{unless}
-use Rattle.codes.specs.Operations.{begins, serves}
-use Rattle.codes.specs.Errors.{listed, mayReturn}
-use Rattle.codes.specs.Problems.{invokeProblem, resultProblem, errorProblem}
-use Rattle.parameters.specs.Suits.{suits, InvokeReceived, ResultReceived}
+use Rattle.codes.specs.Operations.{begins}
 use Rattle.components.specs.Component.{Component, invoke, reject}
 use Rattle.components.specs.Component as component
 use Rattle.components.specs.Facility.{Finding, empty, shows, general, leftOver, faultyReject, facility}
 use Rattle.messages.specs.Layout.{value as valueOf, flag as flagOf}
 use Rattle.table.specs.Table.{Entry, entryAt, holds}
 use Rattle.table.proofs.TableLaws.{holds-at}
-use Rattle.judging.specs.StepSix.{Judged, problem, accepted, among, full, operationOf, without, linkedProblem, orProblem, kept, withPeer, withoutOwn, isOurs, judgeInvoke, judgeResult, judgeError}
+use Rattle.judging.specs.StepSix.{Judged, problem, accepted, among, without, kept, withoutOwn, judgeInvoke, judgeResult, judgeError}
 use Rattle.deciding.specs.Decision.{Decision, silent, withCause, withReject, onReject, released, taken}
 use Rattle.deciding.specs.Steps.{firstOctet, pickedEntry, onJudged, stepSix, fiveAndSix, decide}
+use Rattle.promises.specs.OneVerdict.{isProblem}
 use Rattle.promises.proofs.Walk.{walk}
+use Rattle.promises.proofs.JudgedWalk.{walk-invoke, walk-result, walk-error}
 use Rattle.promises.proofs.Held.{holds-open, own-of, peer-of, one-kept, one-less, open-of}
 
 -- what step 6 accepts is open, and an image can hold it
@@ -29,42 +27,21 @@ abbrev Kept : Judged → Type 0
 Kept (problem tag number) = Unit {0}
 Kept (accepted e) = (holds e ≡ true) × (e .isOpen ≡ true)
 
-kept-unless : (b : Bool) (tag number : ℕ) (next : Judged) → (b ≡ true → Kept next) → Kept (unless b (problem tag number) next)
-kept-unless true tag number next k = k refl
-kept-unless false tag number next k = tt
-
-not-of : (b : Bool) → not b ≡ true → b ≡ false
-not-of true h = absurd (false≢true h)
-not-of false h = refl
+no-problem : (tag number : ℕ) → isProblem tag number ≡ true → Kept (problem tag number)
+no-problem tag number h = tt
 
 module _ (e : Entry) (h : holds e ≡ true) (id : ℤ) where
   invoke-kept : (linked : Option ℤ) (o : ℕ) (p : List ℕ) → Kept (judgeInvoke e id linked o p)
-  unfolding judgeInvoke
-  invoke-kept linked o p =
-      kept-unless (not (among id (e .peer))) invokeProblem 0 _ λ a.
-      kept-unless (not (full (e .peer))) invokeProblem 3 _ λ f.
-      kept-unless (serves o) invokeProblem 1 _ λ s.
-      go (linkedProblem (e .own) linked o) (not-of (full (e .peer)) f)
-    where
-      go : (x : Option ℕ) → full (e .peer) ≡ false → Kept (orProblem x (unless (suits InvokeReceived o p) (problem invokeProblem 2) (accepted (withPeer e id o))))
-      go none f = kept-unless (suits InvokeReceived o p) invokeProblem 2 _ λ s. (holds-open (e .own) (kept (e .peer) id o) (own-of e h) (one-kept (e .peer) id o f), refl)
-      go (some n) f = tt
+  invoke-kept linked o p = walk-invoke Kept no-problem e id linked o p λ f. (holds-open (e .own) (kept (e .peer) id o) (own-of e h) (one-kept (e .peer) id o f), refl)
 
   without-own : among id (e .own) ≡ true → (holds (withoutOwn e id) ≡ true) × (e .isOpen ≡ true)
   without-own a = rw (open-of e id h a) (holds-open (without id (e .own)) (e .peer) (one-less begins id (e .own) (own-of e h)) (peer-of e h), refl)
 
   result-kept : (o : Option ℕ) (p : List ℕ) → Kept (judgeResult e id o p)
-  unfolding judgeResult
-  result-kept o p =
-      kept-unless (among id (e .own)) resultProblem 0 _ λ a.
-      kept-unless (isOurs o (operationOf id (e .own)) && suits ResultReceived (operationOf id (e .own)) p) resultProblem 2 _ λ s. without-own a
+  result-kept o p = walk-result Kept no-problem e id o p without-own
 
   error-kept : (code : ℕ) → Kept (judgeError e id code)
-  unfolding judgeError
-  error-kept code =
-      kept-unless (among id (e .own)) errorProblem 0 _ λ a.
-      kept-unless (listed code) errorProblem 2 _ λ l.
-      kept-unless (mayReturn (operationOf id (e .own)) code) errorProblem 3 _ λ r. without-own a
+  error-kept code = walk-error Kept no-problem e id code λ a r. without-own a
 
 -- and so is every entry that a decision keeps
 abbrev pub Holds : Decision → Type 0

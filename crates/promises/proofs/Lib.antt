@@ -1,4 +1,5 @@
 mod Walk
+mod JudgedWalk
 mod Held
 mod CallFacts
 mod Silence

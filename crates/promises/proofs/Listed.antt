@@ -3,27 +3,24 @@ use Prim.Native.Nat.{ℕ}
 use mathlib.Core.Path.{_≡_, refl, ap}
 use mathlib.Core.List.{List}
 use mathlib.Core.Bool.{Bool, true, false, cond, not, _&&_, _||_}
-use mathlib.Core.Option.{Option, none, some}
+use mathlib.Core.Option.{none}
 use lib.ListN.{length, getD}
 use lib.IntN.{ℤ}
 use lib.Dec.{ltb, leb, eqb}
 use Rattle.octets.specs.Reader.{Answer, fault, sound, Taken, octet, front, isEmpty, alone}
-use Rattle.octets.specs.Unless.{unless}
 use Rattle.octets.proofs.FaultLaws.{Faults, then-faults, check-faults, cond-faults, read-faults, octet-faults}
 use Rattle.elements.specs.Element.{missing, unreadable, refusedTag, lengthOf, twoOctets, Element, element}
-use Rattle.codes.specs.Operations.{serves}
-use Rattle.codes.specs.Errors.{listed, mayReturn}
 use Rattle.codes.specs.Problems.{problemTag}
-use Rattle.parameters.specs.Suits.{suits, InvokeReceived, ResultReceived}
 use Rattle.places.specs.Places.{misplaced, octetIn, single, parameter, invokePlaces, coded, rejected}
 use Rattle.components.specs.Component.{Component, invoke, result, error, reject, invokeTag, resultTag, rejectTag, invokeOf, resultOf, errorOf, rejectOf}
 use Rattle.components.specs.Facility.{Finding, empty, shows, general, leftOver, faultyReject, afterTag, component, found, inside, outer, facility}
-use Rattle.table.specs.Table.{Waiting, Entry, entryAt}
-use Rattle.judging.specs.StepSix.{Judged, problem, accepted, among, full, operationOf, linkedProblem, orProblem, isOurs, judgeInvoke, judgeResult, judgeError}
+use Rattle.table.specs.Table.{Entry, entryAt}
+use Rattle.judging.specs.StepSix.{Judged, problem, accepted, judgeInvoke, judgeResult, judgeError}
 use Rattle.deciding.specs.Decision.{Decision, silent, withCause, withReject, onReject, released, taken}
 use Rattle.deciding.specs.Steps.{pickedEntry, onJudged, stepSix, fiveAndSix, decide}
 use Rattle.promises.specs.OneVerdict.{isProblem, isCause}
 use Rattle.promises.proofs.Walk.{walk}
+use Rattle.promises.proofs.JudgedWalk.{walk-invoke, walk-result, walk-error}
 
 -- the faults of step 5 are 0, 1 and 2
 abbrev IsLow : ℕ → Type 0
@@ -133,36 +130,8 @@ abbrev Told : Judged → Type 0
 Told (problem tag n) = isProblem tag n ≡ true
 Told (accepted e) = Unit {0}
 
-told : (b : Bool) (x y : Judged) → Told x → Told y → Told (unless b x y)
-told true x y h k = k
-told false x y h k = h
-
-linked-told : (own : List Waiting) (linked : Option ℤ) (o : ℕ) (next : Judged) → Told next → Told (orProblem (linkedProblem own linked o) next)
-unfolding linkedProblem
-linked-told own none o next h = h
-linked-told own (some id) o next h = go (among id own) (eqb (operationOf id own) 17) (eqb o 18)
-  where
-    go : (a b c : Bool) → Told (orProblem (unless a (some 5) (unless b (some 6) (unless c (some 7) none))) next)
-    go true true true = h
-    go true true false = refl
-    go true false c = refl
-    go false b c = refl
-
-invoke-told : (e : Entry) (id : ℤ) (linked : Option ℤ) (o : ℕ) (p : List ℕ) → Told (judgeInvoke e id linked o p)
-unfolding judgeInvoke
-invoke-told e id linked o p =
-    told (not (among id (e .peer))) _ _ refl
-    (told (not (full (e .peer))) _ _ refl
-    (told (serves o) _ _ refl
-    (linked-told (e .own) linked o _ (told (suits InvokeReceived o p) _ _ refl tt))))
-
-result-told : (e : Entry) (id : ℤ) (o : Option ℕ) (p : List ℕ) → Told (judgeResult e id o p)
-unfolding judgeResult
-result-told e id o p = told (among id (e .own)) _ _ refl (told (isOurs o (operationOf id (e .own)) && suits ResultReceived (operationOf id (e .own)) p) _ _ refl tt)
-
-error-told : (e : Entry) (id : ℤ) (code : ℕ) → Told (judgeError e id code)
-unfolding judgeError
-error-told e id code = told (among id (e .own)) _ _ refl (told (listed code) _ _ refl (told (mayReturn (operationOf id (e .own)) code) _ _ refl tt))
+told : (tag number : ℕ) → isProblem tag number ≡ true → Told (problem tag number)
+told tag number h = h
 
 abbrev pub Tells : Decision → Type 0
 Tells (silent code) = Unit {0}
@@ -178,9 +147,9 @@ judged-tells (accepted e) id c r h = tt
 
 six-tells : (e : Entry) (c : Component) (r : List ℕ) → Tells (stepSix e c r)
 unfolding stepSix
-six-tells e (invoke id l o p) r = judged-tells (judgeInvoke e id l o p) id (invoke id l o p) r (invoke-told e id l o p)
-six-tells e (result id o p) r = judged-tells (judgeResult e id o p) id (result id o p) r (result-told e id o p)
-six-tells e (error id k p) r = judged-tells (judgeError e id k) id (error id k p) r (error-told e id k)
+six-tells e (invoke id l o p) r = judged-tells (judgeInvoke e id l o p) id (invoke id l o p) r (walk-invoke Told told e id l o p λ f. tt)
+six-tells e (result id o p) r = judged-tells (judgeResult e id o p) id (result id o p) r (walk-result Told told e id o p λ a. tt)
+six-tells e (error id k p) r = judged-tells (judgeError e id k) id (error id k p) r (walk-error Told told e id k λ a r. tt)
 six-tells e (reject id tag n) r = tt
 
 general-listed : (n : ℕ) → leb n 2 ≡ true → isProblem 0x80 n ≡ true

@@ -2,45 +2,43 @@
 use Prim.Native.Nat.{ℕ, _<_}
 use mathlib.Core.Path.{_≡_, refl, ap, subst, _∙_}
 use mathlib.Core.List.{List, [], _∷_, _++_}
-use mathlib.Core.Bool.{Bool, true, false, cond, not, _&&_, false≢true}
-use mathlib.Core.Option.{Option, none, some}
+use mathlib.Core.Bool.{Bool, true, false, cond, not, _&&_, _||_, false≢true}
 use native.Mathlib.Omega.{arith}
 use lib.IntN.{ℤ}
 use lib.ListN.{length, getD, drop}
 use lib.Dec.{leb, eqb}
+use borrow.Author.Tests.{eqb-true}
 use mir.Syntax.{w8}
 use mir.Val.{SFits}
 use Rattle.codes.proofs.IdLaws.{is-id}
 use Rattle.octets.specs.Octets.{Octets}
 use Rattle.octets.specs.Reader.{Answer, fault, sound, Taken, andThen, check, octet, front, isEmpty, alone}
-use Rattle.octets.specs.Unless.{unless}
 use Rattle.octets.proofs.OctetsLaws.{octets-take, octets-drop}
 use Rattle.octets.proofs.ReaderLaws.{sound-inj, through, passed, rest-octets, octet-local}
 use Rattle.elements.specs.Element.{Element, missing, unreadable, refusedTag, lengthOf, element}
 use Rattle.elements.proofs.ElementLaws.{length-local}
 use Rattle.codes.specs.Ids.{idOf}
-use Rattle.codes.specs.Problems.{invokeProblem, problemTag}
+use Rattle.codes.specs.Problems.{generalProblem, invokeProblem, resultProblem, errorProblem, problemTag}
 use Rattle.places.specs.Places.{misplaced, single, invokePlaces, coded, rejected, parameter}
 use Rattle.components.specs.Component.{Component, invoke, result, error, reject, rejectTag, invokeTag, resultTag, invokeOf, resultOf, errorOf, rejectOf}
 use Rattle.components.specs.Facility.{Finding, empty, shows, general, leftOver, faultyReject, idRead, found, afterTag, component, inside, outer, facility}
 use Rattle.components.specs.Written.{IsSomeId, componentOctets}
 use Rattle.components.proofs.ReadBack.{read-back}
-use Rattle.codes.specs.Operations.{serves}
-use Rattle.codes.specs.Errors.{listed, mayReturn}
-use Rattle.parameters.specs.Suits.{suits, InvokeReceived, ResultReceived}
 use Rattle.messages.specs.Layout.{registerType, mandatoryMissing, mandatory, releaseFacility}
 use Rattle.messages.specs.Scan.{clear, required}
 use Rattle.messages.proofs.ScanLaws.{mandatory-is}
 use Rattle.sending.proofs.SentBack.{release-found}
 use Rattle.table.specs.Table.{Entry, entryAt}
-use Rattle.judging.specs.StepSix.{Judged, problem, accepted, among, full, operationOf, linkedProblem, orProblem, withPeer, isOurs, judgeInvoke, judgeResult, judgeError}
+use Rattle.judging.specs.StepSix.{Judged, problem, accepted, judgeInvoke, judgeResult, judgeError}
 use Rattle.deciding.specs.Decision.{Decision, silent, withCause, withReject, onReject, released, taken}
 use Rattle.deciding.specs.Steps.{pickedEntry, replyFirst, onJudged, stepSix, fiveAndSix, decide}
 use Rattle.telephone.specs.Receive.{verdictOf, act, receive}
 use Rattle.telephone.proofs.OutcomeLaws.{front-is}
+use Rattle.promises.specs.OneVerdict.{isProblem}
 use Rattle.promises.specs.ReadBack.{CarriesReject, RejectReadsBack}
 use Rattle.promises.proofs.Silence.{Says, decide-says}
 use Rattle.promises.proofs.Walk.{walk}
+use Rattle.promises.proofs.JudgedWalk.{walk-invoke, walk-result, walk-error}
 
 -- the first octet of octets
 first-octet : (s : List ℕ) → Octets s → getD s 0 0 < 256
@@ -153,29 +151,16 @@ abbrev Tagged : Judged → Type 0
 Tagged (problem tag number) = problemTag tag ≡ true
 Tagged (accepted e) = Unit {0}
 
-tagged : (b : Bool) (x y : Judged) → Tagged x → Tagged y → Tagged (unless b x y)
-tagged true x y h k = k
-tagged false x y h k = h
-
-invoke-tagged : (e : Entry) (id : ℤ) (linked : Option ℤ) (o : ℕ) (p : List ℕ) → Tagged (judgeInvoke e id linked o p)
-unfolding judgeInvoke
-invoke-tagged e id linked o p =
-    tagged (not (among id (e .peer))) _ _ refl
-    (tagged (not (full (e .peer))) _ _ refl
-    (tagged (serves o) _ _ refl
-    (go (linkedProblem (e .own) linked o))))
+tagged : (tag number : ℕ) → isProblem tag number ≡ true → Tagged (problem tag number)
+tagged tag number h = go (eqb tag generalProblem) (eqb tag invokeProblem) (eqb tag resultProblem) (eqb tag errorProblem) _ _ _ _ refl refl refl refl h
   where
-    go : (x : Option ℕ) → Tagged (orProblem x (unless (suits InvokeReceived o p) (problem invokeProblem 2) (accepted (withPeer e id o))))
-    go none = tagged (suits InvokeReceived o p) _ _ refl tt
-    go (some n) = refl
-
-result-tagged : (e : Entry) (id : ℤ) (o : Option ℕ) (p : List ℕ) → Tagged (judgeResult e id o p)
-unfolding judgeResult
-result-tagged e id o p = tagged (among id (e .own)) _ _ refl (tagged (isOurs o (operationOf id (e .own)) && suits ResultReceived (operationOf id (e .own)) p) _ _ refl tt)
-
-error-tagged : (e : Entry) (id : ℤ) (code : ℕ) → Tagged (judgeError e id code)
-unfolding judgeError
-error-tagged e id code = tagged (among id (e .own)) _ _ refl (tagged (listed code) _ _ refl (tagged (mayReturn (operationOf id (e .own)) code) _ _ refl tt))
+    go : (a b c d k l m n : Bool) → eqb tag generalProblem ≡ a → eqb tag invokeProblem ≡ b → eqb tag resultProblem ≡ c → eqb tag errorProblem ≡ d
+        → (a && k) || (b && l) || (c && m) || (d && n) ≡ true → problemTag tag ≡ true
+    go true b c d k l m n x y z w t = ap problemTag (eqb-true tag generalProblem x)
+    go false true c d k l m n x y z w t = ap problemTag (eqb-true tag invokeProblem y)
+    go false false true d k l m n x y z w t = ap problemTag (eqb-true tag resultProblem z)
+    go false false false true k l m n x y z w t = ap problemTag (eqb-true tag errorProblem w)
+    go false false false false k l m n x y z w t = absurd (false≢true t)
 
 -- a decision to send a Reject that can be written
 abbrev Rejects : Decision → Type 0
@@ -192,9 +177,9 @@ judged-rejects (accepted e) id c r h k = tt
 
 six-rejects : (e : Entry) (c : Component) (r : List ℕ) → HasId c → Rejects (stepSix e c r)
 unfolding stepSix
-six-rejects e (invoke id linked o p) r h = judged-rejects (judgeInvoke e id linked o p) id _ r h (invoke-tagged e id linked o p)
-six-rejects e (result id o p) r h = judged-rejects (judgeResult e id o p) id _ r h (result-tagged e id o p)
-six-rejects e (error id code p) r h = judged-rejects (judgeError e id code) id _ r h (error-tagged e id code)
+six-rejects e (invoke id linked o p) r h = judged-rejects (judgeInvoke e id linked o p) id _ r h (walk-invoke Tagged tagged e id linked o p λ f. tt)
+six-rejects e (result id o p) r h = judged-rejects (judgeResult e id o p) id _ r h (walk-result Tagged tagged e id o p λ a. tt)
+six-rejects e (error id code p) r h = judged-rejects (judgeError e id code) id _ r h (walk-error Tagged tagged e id code λ a r. tt)
 six-rejects e (reject id tag n) r h = tt
 
 five-rejects : (e : Entry) (f : Finding) (r : List ℕ) → FindingHasId f → Rejects (fiveAndSix e f r)
