@@ -84,7 +84,7 @@ static const uint8_t codes[] = {1,  9,  10, 11, 12, 13, 16, 17, 18, 19, 20,
                                 21, 27, 34, 35, 36, 37, 38, 43, 71, 72};
 
 /* We begin an operation, and this code comes back as its error: in FACILITY, or with a
- * release. What is left of the table, and of the reply. */
+ * release. The table and the reply are left as they became. */
 static smr_received answer_with(size_t k, bool end, uint8_t code, uint8_t *table, uint8_t *reply)
 {
     uint8_t out[SMR_MESSAGE];

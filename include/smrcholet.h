@@ -98,7 +98,8 @@ extern "C" {
  *   19 13 ss-SubscriptionViolation     71 47 unknownAlphabet
  *   20 14 ss-Incompatibility
  *
- * Any other error is refused: the reply is a release with a Reject.
+ * Any other is refused and not shown: the reply is a release with a Reject, or
+ * nothing where it came with a release.
  *
  * The parameters, in hex; ll is the length of the contents behind it, 00 to 7F,
  * or 81 and one octet for more:

@@ -1,8 +1,9 @@
 -- "Error codes: 1, 9 to 13, 16 to 21, 27, 34 to 38, 43, 71, 72."
 use Prim.Native.Nat.{ℕ}
-use mathlib.Core.Bool.{Bool, false, cond, _||_, _&&_}
+use mathlib.Core.Bool.{Bool, false, cond, not, _||_, _&&_}
 use mathlib.Core.List.{List, [], _∷_}
 use lib.Dec.{leb, eqb}
+use lib.ListN.{take}
 
 abbrev pub within : ℕ → ℕ → ℕ → Bool
 within low high n = leb low n && leb n high
@@ -111,3 +112,13 @@ isIn code (c ∷ cs) = eqb code c || isIn code cs
 -- "in the list of the outstanding operation"
 unfoldable pub mayReturn : ℕ → ℕ → Bool
 mayReturn operation code = isIn code (errorsOf operation)
+
+-- The same of 10 to 14 code by code (`service-lists` proves it). The first seven of each list are the same; "17 is in 10 to 13
+-- and not in 14; 18 in 14 alone; 20 in 10 and 12, not in 11 and 13; 19 in 12, 13", and so are 38 and 43.
+abbrev pub ofService : ℕ → ℕ → Bool
+ofService operation code =
+    isIn code (take 7 registerSS-Errors)
+    || (eqb code 17 && not (eqb operation 14))
+    || (eqb code 18 && eqb operation 14)
+    || ((eqb code 19 || eqb code 38 || eqb code 43) && (eqb operation 12 || eqb operation 13))
+    || (eqb code 20 && (eqb operation 10 || eqb operation 12))

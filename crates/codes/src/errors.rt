@@ -1,8 +1,7 @@
 // The error codes that may stand in a Return error, one entry for each octet, and those that each operation may return.
 ghost use mathlib.Core.Path.{_≡_};
-ghost use Prim.Native.Nat.{_≤_};
 ghost use lib.ListN.{take};
-ghost use Rattle.codes.specs.Errors.{listed, mayReturn, isIn, registerSS-Errors, registerPassword-Errors, processUnstructuredSS-Request-Errors};
+ghost use Rattle.codes.specs.Errors.{listed, mayReturn, ofService, isIn, registerSS-Errors, registerPassword-Errors, processUnstructuredSS-Request-Errors};
 
 const LISTED: [bool; 256] = [
     false,
@@ -281,8 +280,7 @@ fn is_shared(code: u8) -> bool
 
 // An error of 10 to 14, the operations on a service.
 fn is_of_service(operation: u8, code: u8) -> bool
-    requires { ⌜ (10 ≤ operation) × (operation ≤ 14) ⌝ }
-    ensures { λ r. ⌜ r ≡ mayReturn operation code ⌝ }
+    ensures { λ r. ⌜ r ≡ ofService operation code ⌝ }
 {
     is_shared(code)
         | ((code == 17) & (operation != 14))

@@ -1,6 +1,6 @@
 -- The request's story, by the theorem and not by computing the answers.
 use Prim.Native.Nat.{ℕ}
-use mathlib.Core.Path.{_≡_, refl, sym, ap, subst}
+use mathlib.Core.Path.{_≡_, refl, sym, subst}
 use mathlib.Core.List.{List, [], _∷_}
 use mathlib.Core.Bool.{true}
 use lib.IntN.{pos}
@@ -15,9 +15,8 @@ use Rattle.components.specs.Written.{contents}
 use Rattle.messages.specs.Layout.{sized, mandatory, facilityType, releaseFacility}
 use Rattle.messages.specs.Scan.{information, clearOf, clear, required, firstOf, firstTaken}
 use Rattle.table.specs.Table.{entryOf, soundImage, entryAt, soundEntries, valid}
-use Rattle.judging.specs.StepSix.{among, operationOf}
+use Rattle.judging.specs.StepSix.{among, operationOf, without}
 use Rattle.deciding.specs.Steps.{pickedEntry, replyFirst}
-use Rattle.telephone.specs.Outcome.{Outcome}
 use Rattle.promises.specs.Reaches.{Arrives, inFacility, ReachesStepSix, ReachesInRelease}
 use Rattle.promises.specs.Worked.{buffer, Answers}
 use Rattle.promises.specs.Editions.{own59}
@@ -58,19 +57,14 @@ module _ (t : List ℕ) (image : valid t ≡ true) (isOpen : entryAt t 0 .isOpen
       }
 
 pub error-cases : ErrorCases
-unfolding listed errorsOf entryOf soundImage entryAt soundEntries valid among operationOf pickedEntry replyFirst shortest releaseFacility contents splice firstTaken facility-reaches end-reaches
-error-cases =
-    let busy = others-are-refused own11 (errorWith 72) buffer (pos 1) 72 [] refl refl refl .0 (facility-reaches own11 refl refl 72) in
-    let end = others-are-refused own11 (endWith 72) buffer (pos 1) 72 [] refl refl refl .1 (end-reaches own11 refl refl 72) in (
-      subst (Answers 3 _) (sym busy) (refl, refl),
-      (
-        subst (Answers 5 []) (sym end) (refl, refl),
-        (
-          ap (λ (o : Outcome). o .shown) end,
-          (
-            its-own-are-shown own59 (errorWith 71) buffer (pos 1) 71 [] refl refl .0 (facility-reaches own59 refl refl 71),
-            its-own-are-shown own59 (endWith 71) buffer (pos 1) 71 [] refl refl .1 (end-reaches own59 refl refl 71),
-          ),
-        ),
-      ),
-    )
+unfolding listed errorsOf entryOf soundImage entryAt soundEntries valid among operationOf without pickedEntry replyFirst shortest releaseFacility contents splice facility-reaches end-reaches
+error-cases = (
+  subst (Answers 3 _) (sym (others-are-refused own11 (errorWith 72) buffer (pos 1) 72 [] refl refl refl .0 (facility-reaches own11 refl refl 72))) (refl, refl),
+  (
+    others-are-refused own11 (endWith 72) buffer (pos 1) 72 [] refl refl refl .1 (end-reaches own11 refl refl 72),
+    (
+      its-own-are-shown own59 (errorWith 71) buffer (pos 1) 71 [] refl refl .0 (facility-reaches own59 refl refl 71),
+      its-own-are-shown own59 (endWith 71) buffer (pos 1) 71 [] refl refl .1 (end-reaches own59 refl refl 71),
+    ),
+  ),
+)

@@ -23,7 +23,7 @@ use Rattle.deciding.proofs.StepLaws.{by-type, tested}
 use Rattle.telephone.specs.Receive.{verdictOf, act, receive}
 use Rattle.telephone.proofs.Shown.{nothing-shown, five-shows, except-shows}
 use Rattle.promises.specs.Reaches.{ReachesInRelease}
-use Rattle.promises.specs.ErrorLists.{ShowsWith, takenOrReleased, ShownIsInList, OthersAreRefused, ItsOwnAreShown, ErrorLists}
+use Rattle.promises.specs.ErrorLists.{takenOrReleased, ShownIsInList, OthersAreRefused, ItsOwnAreShown, ErrorLists}
 use Rattle.promises.proofs.JudgedWalk.{walk-error}
 use Rattle.promises.proofs.Reached.{reached, released-at}
 
@@ -99,15 +99,12 @@ others-are-refused t m b id code p a l n =
     )
 
 pub its-own-are-shown : ItsOwnAreShown
-unfolding receive act
+unfolding receive act splice
 its-own-are-shown t m b id code p a y =
     let c = error id code p in (
-      λ r. shows-with 0 c (r .behind) (reached t m b c r ∙ its-own (entryAt t (pickedEntry m)) id code p (r .behind) a y) refl refl,
-      λ r. shows-with 5 c (r .behind) (in-release t m b c _ r (its-own (entryAt t (pickedEntry m)) id code p (r .behind) a y)) refl refl,
+      λ r. ap (act t m b) (reached t m b c r ∙ its-own (entryAt t (pickedEntry m)) id code p (r .behind) a y),
+      λ r. ap (act t m b) (in-release t m b c _ r (its-own (entryAt t (pickedEntry m)) id code p (r .behind) a y)),
     )
-  where
-    shows-with : (verdict : ℕ) (c : Component) (behind : List ℕ) {d : Decision} → decide t m (length b) ≡ d → verdictOf d ≡ verdict → shownBy d ≡ shown c behind → ShowsWith verdict c behind (receive t m b)
-    shows-with verdict c behind e v w = (ap verdictOf e ∙ v, ap shownBy e ∙ w)
 
 pub error-lists : ErrorLists
 error-lists = (shown-is-in-list, (others-are-refused, its-own-are-shown))

@@ -2,10 +2,11 @@
 use Prim.Native.Nat.{ℕ}
 use mathlib.Core.Path.{_≡_, refl}
 use mathlib.Core.List.{List}
-use mathlib.Core.Bool.{Bool, true, false, not, _&&_, false≢true}
+use mathlib.Core.Bool.{Bool, true, false, not, _&&_}
 use mathlib.Core.Option.{Option, none, some}
 use lib.IntN.{ℤ}
 use lib.Dec.{eqb}
+use borrow.Author.Tests.{not-true}
 use Rattle.octets.specs.Unless.{unless}
 use Rattle.codes.specs.Operations.{serves}
 use Rattle.codes.specs.Errors.{listed, mayReturn}
@@ -14,10 +15,6 @@ use Rattle.parameters.specs.Suits.{suits, InvokeReceived, ResultReceived}
 use Rattle.table.specs.Table.{Waiting, Entry}
 use Rattle.judging.specs.StepSix.{Judged, problem, accepted, among, full, operationOf, linkedProblem, orProblem, withPeer, withoutOwn, isOurs, judgeInvoke, judgeResult, judgeError}
 use Rattle.promises.specs.OneVerdict.{isProblem}
-
-not-of : (b : Bool) → not b ≡ true → b ≡ false
-not-of true h = absurd (false≢true h)
-not-of false h = refl
 
 module _ (P : Judged → Type 0) (onProblem : (tag number : ℕ) → isProblem tag number ≡ true → P (problem tag number)) where
   -- a test is passed, or its problem is told
@@ -43,7 +40,7 @@ module _ (P : Judged → Type 0) (onProblem : (tag number : ℕ) → isProblem t
         past (not (among id (e .peer))) invokeProblem 0 _ refl λ a.
         past (not (full (e .peer))) invokeProblem 3 _ refl λ f.
         past (serves o) invokeProblem 1 _ refl λ s.
-        past-linked (e .own) linked o _ (past (suits InvokeReceived o p) invokeProblem 2 _ refl λ u. onAccepted (not-of (full (e .peer)) f))
+        past-linked (e .own) linked o _ (past (suits InvokeReceived o p) invokeProblem 2 _ refl λ u. onAccepted (not-true (full (e .peer)) f))
 
     pub walk-result : (o : Option ℕ) (p : List ℕ) → (among id (e .own) ≡ true → P (accepted (withoutOwn e id))) → P (judgeResult e id o p)
     unfolding judgeResult

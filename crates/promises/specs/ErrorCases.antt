@@ -2,11 +2,14 @@
 use Prim.Native.Nat.{ℕ}
 use mathlib.Core.Path.{_≡_}
 use mathlib.Core.List.{List, [], _∷_}
+use mathlib.Core.Bool.{true}
 use mathlib.Core.Option.{none}
 use lib.IntN.{pos}
 use Rattle.components.specs.Component.{error}
+use Rattle.components.specs.Shows.{Shows}
+use Rattle.deciding.specs.Steps.{shown}
 use Rattle.telephone.specs.Receive.{receive}
-use Rattle.promises.specs.ErrorLists.{ShowsWith}
+use Rattle.promises.specs.Reaches.{takenWith, releasedWith}
 use Rattle.promises.specs.Worked.{zeros, buffer, Answers}
 use Rattle.promises.specs.Editions.{own59}
 
@@ -21,11 +24,14 @@ errorWith code = 0x8B ∷ 0x3A ∷ 0x08 ∷ 0xA3 ∷ 0x06 ∷ 0x02 ∷ 0x01 ∷ 
 abbrev pub endWith : ℕ → List ℕ
 endWith code = 0x8B ∷ 0x2A ∷ 0x1C ∷ 0x08 ∷ 0xA3 ∷ 0x06 ∷ 0x02 ∷ 0x01 ∷ 0x01 ∷ 0x02 ∷ 0x01 ∷ code ∷ []
 
--- ussd-Busy to eraseSS is refused; unknownAlphabet to 59 is shown
+-- unknownAlphabet, as it is shown
+abbrev pub alphabetShown : Shows
+alphabetShown = shown (error (pos 1) 71 []) []
+
+-- ussd-Busy to eraseSS is refused; unknownAlphabet to 59 is shown, and nothing waits any more
 abbrev pub ErrorCases : Type 0
 ErrorCases =
     Answers 3 (0x0B ∷ 0x2A ∷ 0x1C ∷ 0x08 ∷ 0xA4 ∷ 0x06 ∷ 0x02 ∷ 0x01 ∷ 0x01 ∷ 0x83 ∷ 0x01 ∷ 0x03 ∷ []) (receive own11 (errorWith 72) buffer)
-    × (Answers 5 [] (receive own11 (endWith 72) buffer)
-    × ((receive own11 (endWith 72) buffer .shown ≡ none)
-    × (ShowsWith 0 (error (pos 1) 71 []) [] (receive own59 (errorWith 71) buffer)
-    × ShowsWith 5 (error (pos 1) 71 []) [] (receive own59 (endWith 71) buffer))))
+    × ((receive own11 (endWith 72) buffer ≡ releasedWith own11 (endWith 72) buffer none)
+    × ((receive own59 (errorWith 71) buffer ≡ takenWith own59 (errorWith 71) buffer (record { isOpen = true; own = []; peer = [] }) alphabetShown)
+    × (receive own59 (endWith 71) buffer ≡ releasedWith own59 (endWith 71) buffer alphabetShown)))

@@ -4,18 +4,17 @@ use Prim.Native.Nat.{ℕ}
 use mathlib.Core.Path.{_≡_}
 use mathlib.Core.List.{List}
 use mathlib.Core.Bool.{Bool, true, false, _||_}
-use mathlib.Core.Option.{some}
+use mathlib.Core.Option.{none, some}
 use lib.IntN.{ℤ}
 use lib.Dec.{eqb}
 use Rattle.codes.specs.Errors.{listed, errorsOf, isIn}
 use Rattle.codes.specs.Problems.{errorProblem}
-use Rattle.components.specs.Component.{Component, error}
+use Rattle.components.specs.Component.{error}
 use Rattle.table.specs.Table.{Waiting, entryAt}
-use Rattle.judging.specs.StepSix.{among, operationOf}
-use Rattle.deciding.specs.Steps.{pickedEntry}
-use Rattle.telephone.specs.Outcome.{Outcome}
+use Rattle.judging.specs.StepSix.{among, operationOf, withoutOwn}
+use Rattle.deciding.specs.Steps.{pickedEntry, shown}
 use Rattle.telephone.specs.Receive.{receive}
-use Rattle.promises.specs.Reaches.{ReachesStepSix, ReachesInRelease, rejected, releasedSilently}
+use Rattle.promises.specs.Reaches.{ReachesStepSix, ReachesInRelease, rejected, takenWith, releasedWith}
 
 -- what we have outstanding in the message's transaction, as the table has it before
 abbrev pub outstanding : List ℕ → List ℕ → List Waiting
@@ -24,10 +23,6 @@ outstanding t m = entryAt t (pickedEntry m) .own
 -- the list of the operation that is outstanding under this id
 abbrev pub itsErrors : List ℕ → List ℕ → ℤ → List ℕ
 itsErrors t m id = errorsOf (operationOf id (outstanding t m))
-
--- this verdict, with this component shown
-abbrev pub ShowsWith : ℕ → Component → List ℕ → Outcome → Type 0
-ShowsWith verdict c behind o = (o .code ≡ verdict) × (o .shown ≡ some (record { component = c; behind = behind }))
 
 -- taken, or released by the network
 abbrev pub takenOrReleased : ℕ → Bool
@@ -45,14 +40,15 @@ abbrev pub OthersAreRefused : Type 0
 OthersAreRefused =
     (t m b : List ℕ) (id : ℤ) (code : ℕ) (p : List ℕ) → among id (outstanding t m) ≡ true → listed code ≡ true → isIn code (itsErrors t m id) ≡ false
     → (ReachesStepSix t m b (error id code p) → receive t m b ≡ rejected t m b id errorProblem 3)
-    × (ReachesInRelease t m b (error id code p) → receive t m b ≡ releasedSilently t m b)
+    × (ReachesInRelease t m b (error id code p) → receive t m b ≡ releasedWith t m b none)
 
--- and one of a code that is in that list is shown: taken, or with the release
+-- and one of a code that is in that list is shown: "A result or error received clears the own invoke, and the transaction stays
+-- open", or it comes with the release
 abbrev pub ItsOwnAreShown : Type 0
 ItsOwnAreShown =
     (t m b : List ℕ) (id : ℤ) (code : ℕ) (p : List ℕ) → among id (outstanding t m) ≡ true → isIn code (itsErrors t m id) ≡ true
-    → ((r : ReachesStepSix t m b (error id code p)) → ShowsWith 0 (error id code p) (r .behind) (receive t m b))
-    × ((r : ReachesInRelease t m b (error id code p)) → ShowsWith 5 (error id code p) (r .behind) (receive t m b))
+    → ((r : ReachesStepSix t m b (error id code p)) → receive t m b ≡ takenWith t m b (withoutOwn (entryAt t (pickedEntry m)) id) (shown (error id code p) (r .behind)))
+    × ((r : ReachesInRelease t m b (error id code p)) → receive t m b ≡ releasedWith t m b (shown (error id code p) (r .behind)))
 
 abbrev pub ErrorLists : Type 0
 ErrorLists = ShownIsInList × (OthersAreRefused × ItsOwnAreShown)

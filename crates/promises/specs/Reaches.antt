@@ -10,10 +10,11 @@ use Rattle.octets.specs.Reader.{took}
 use Rattle.octets.specs.Splice.{splice}
 use Rattle.components.specs.Component.{Component, reject}
 use Rattle.components.specs.Facility.{shows, facility}
+use Rattle.components.specs.Shows.{Shows}
 use Rattle.components.specs.Written.{componentOctets}
 use Rattle.messages.specs.Layout.{discriminator, value, flag, registerType, facilityType, releaseType, releaseFacility}
 use Rattle.messages.specs.Scan.{required, firstTaken}
-use Rattle.table.specs.Table.{entryAt, closed, valid, withEntry}
+use Rattle.table.specs.Table.{Entry, entryAt, closed, valid, withEntry}
 use Rattle.deciding.specs.Steps.{firstOctet, pickedEntry, replyFirst}
 use Rattle.telephone.specs.Outcome.{Outcome}
 
@@ -71,14 +72,27 @@ rejected t m b id tag number =
       table = withEntry t (pickedEntry m) closed;
     }
 
--- verdict 5, nothing sent or written, nothing shown but the contents of the 08, and the entry closed
-abbrev pub releasedSilently : List ℕ → List ℕ → List ℕ → Outcome
-releasedSilently t m b =
+-- verdict 0, nothing sent or written, this shown, and the entry as it becomes
+abbrev pub takenWith : List ℕ → List ℕ → List ℕ → Entry → Shows → Outcome
+takenWith t m b entry shown =
+    record {
+      code = 0;
+      written = 0;
+      value = 0;
+      shown = shown;
+      cause = none;
+      buffer = b;
+      table = withEntry t (pickedEntry m) entry;
+    }
+
+-- verdict 5, nothing sent or written, this shown and the contents of the 08, and the entry closed
+abbrev pub releasedWith : List ℕ → List ℕ → List ℕ → Shows → Outcome
+releasedWith t m b shown =
     record {
       code = 5;
       written = 0;
       value = 0;
-      shown = none;
+      shown = shown;
       cause = firstTaken 0x08 (drop 2 m);
       buffer = b;
       table = withEntry t (pickedEntry m) closed;

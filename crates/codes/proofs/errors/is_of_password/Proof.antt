@@ -1,4 +1,4 @@
-use mathlib.Core.Path.{ap, sym}
+use mathlib.Core.Path.{refl, sym, ap}
 use mathlib.Core.Bool.{Bool, true, false}
 use mathlib.Core.List.{List, [], _∷_}
 use mathlib.Core.Logic.{⊎-elim}
@@ -18,16 +18,16 @@ abbrev keys : List ℕ
 keys = 13 ∷ 19 ∷ 43 ∷ []
 
 returns : tie.Need-returns
-returns c = on (λ k. false) isOne keys 0 34 tt (c .before .before .args .code) (omega arith) (omega arith) (c .before .match .rest .1)
+returns c = on (λ k. false) isOne keys 0 34 refl (c .before .before .args .code) (omega arith) (omega arith) (c .before .match .rest .1)
 
 returns-2 : tie.Need-returns-2
-returns-2 c = on (λ k. false) isOne keys 39 217 tt (c .before .before .before .args .code) (omega arith) (omega arith) (c .before .before .match .rest .1)
+returns-2 c = on (λ k. false) isOne keys 39 217 refl (c .before .before .before .args .code) (omega arith) (omega arith) (c .before .before .match .rest .1)
 
 returns-3 : tie.Need-returns-3
 returns-3 c = sym (⊎-elim (λ e. ap isOne e) (⊎-elim (λ e. ap isOne e) (λ e. ap isOne e)) (c .match .keys1))
 
 returns-4 : tie.Need-returns-4
-returns-4 c = on (λ k. true) isOne [] 34 5 tt (c .before .before .before .args .code) (omega arith) (omega arith) (λ e. e)
+returns-4 c = on (λ k. true) isOne [] 34 5 refl (c .before .before .before .args .code) (omega arith) (omega arith) (λ e. e)
 
 pub is-of-password-spec : {M : Type 1} → statement M
 is-of-password-spec = tie.close (tie.spec returns returns-2 returns-3 returns-4)

@@ -6,6 +6,7 @@ use mathlib.Core.Logic.{⊎-elim}
 use Prim.Native.Nat.{ℕ}
 use native.Mathlib.Omega.{arith}
 use Rattle.codes.specs.Errors.{isIn, errorsOf, mayReturn}
+use Rattle.codes.proofs.ErrorLaws.{service-lists}
 use Rattle.codes.proofs.Runs.{on}
 use Rattle.codes.proofs.errors.may_return.Statement.{statement}
 use Rattle.codes.proofs.errors.may_return.Tie as tie
@@ -45,19 +46,21 @@ unfolding mayReturn errorsOf
 returns-2 c = c .is-of-ussd .ensures ∙ sym (ap (λ (o : ℕ). mayReturn o (c .before .before .args .code)) (c .before .match .keys2))
 
 returns-3 : tie.Need-returns-3
-returns-3 c = search needs
+returns-3 c =
+    let b = c .before .before .before .before in
+    c .is-of-service .ensures ∙ service-lists (b .args .operation) (b .args .code) (omega arith) (omega arith) (b .fits .code .fits)
 
 returns-4 : tie.Need-returns-4
 unfolding mayReturn errorsOf
 returns-4 c =
     let a = c .before .before .args in
-    in-none (a .code) (errorsOf (a .operation)) (on hasNone (λ o. true) [] 0 10 tt (a .operation) (omega arith) (omega arith) (λ e. e))
+    in-none (a .code) (errorsOf (a .operation)) (on hasNone (λ o. true) [] 0 10 refl (a .operation) (omega arith) (omega arith) (λ e. e))
 
 returns-5 : tie.Need-returns-5
 unfolding mayReturn errorsOf
 returns-5 c =
     let a = c .before .before .before .args in
-    in-none (a .code) (errorsOf (a .operation)) (on hasNone (λ o. true) (17 ∷ 59 ∷ []) 15 241 tt (a .operation) (omega arith) (omega arith) (⊎-elim (c .before .before .match .rest .0 .1) (c .before .before .match .rest .1)))
+    in-none (a .code) (errorsOf (a .operation)) (on hasNone (λ o. true) (17 ∷ 59 ∷ []) 15 241 refl (a .operation) (omega arith) (omega arith) (⊎-elim (c .before .before .match .rest .0 .1) (c .before .before .match .rest .1)))
 
 pub may-return-spec : {M : Type 1} → statement M
 may-return-spec =
