@@ -1,5 +1,5 @@
 pub mod IdLaws
 pub mod ErrorLaws
 mod Halves
-mod Tabulate
-mod Runs
+pub mod Tabulate
+pub mod Runs

@@ -1,0 +1,11 @@
+pub mod SeptetLaws
+mod DigitLaws
+pub mod PackingLaws
+mod AlphabetLaws
+mod RowLaws
+pub mod LineLaws
+pub mod BrokenLaws
+pub mod FewLaws
+mod PutLaws
+mod LayLaws
+pub mod CellsLaws

@@ -1,0 +1,19 @@
+use borrow.Author.Needs.{needs}
+use native.Mathlib.Numerals.{add-one}
+use borrow.Author.Tests.{eq-eqb, ne-eqb}
+use Rattle.cells.proofs.rows.grow.Statement.{statement}
+use Rattle.cells.proofs.rows.grow.Tie as tie
+use Rattle.cells.proofs.rows.grow.Reads as reads
+use Rattle.cells.proofs.rows.grow.Lts as lts
+
+add-width : tie.Need-add-width
+add-width c = search needs
+
+returns : tie.Need-returns
+returns c = rw (add-one (c .before .before .args .row .width), eq-eqb _ _ (c .if1 .taken))
+
+returns-2 : tie.Need-returns-2
+returns-2 c = rw (add-one (c .before .before .args .row .width), ne-eqb _ _ (c .if1 .left))
+
+pub grow-spec : {M : Type 1} → statement M
+grow-spec = tie.close (tie.spec add-width returns returns-2)

@@ -1,0 +1,49 @@
+-- How the code goes: one character after the other, with what it holds of the line that has begun.
+use Prim.Native.Nat.{ℕ, suc, _+_, _-_}
+use mathlib.Core.List.{List, [], _∷_, _++_}
+use mathlib.Core.Bool.{Bool, cond, _&&_}
+use lib.ListN.{length, getD, drop}
+use lib.Dec.{eqb, ltb}
+use Rattle.octets.specs.Splice.{splice}
+use Rattle.cells.specs.Alphabet.{escape, space, characterOf, extensionOf}
+use Rattle.cells.specs.Lines.{line, brokenAt, extent}
+use Rattle.cells.specs.declared.rows.Line.{Line}
+use Rattle.cells.specs.declared.rows.Row.{Row}
+use Rattle.cells.specs.declared.text.Character.{Character}
+
+-- the character that begins at a septet, and where the next begins
+unfoldable pub characterAt : List ℕ → ℕ → Character
+characterAt s at =
+    cond (eqb (getD s at 0) escape && ltb (at + 1) (length s)) (record { code = extensionOf (getD s (at + 1) 0); next = at + 2 })
+    (record { code = characterOf (getD s at 0); next = at + 1 })
+
+-- a line with one character more: its width, and how much of it stands up to the last space
+abbrev pub grown : Row → ℕ → Row
+grown row c = record { width = suc (row .width); kept = cond (eqb c space) (suc (row .width)) (row .kept) }
+
+abbrev pub isOver : Row → Bool
+isOver row = ltb 40 (row .width)
+
+-- the line that a row makes: the last one, or one that is broken
+unfoldable pub lineOf : Row → Line
+lineOf row = cond (isOver row) (brokenAt (row .kept)) (line (row .width) 0)
+
+-- what is left of a row behind the line that it makes
+unfoldable pub leftOf : Row → Row
+leftOf row = cond (isOver row) (record { width = row .width - extent (brokenAt (row .kept)); kept = 0 }) row
+
+-- the lines that end with a row's last character
+abbrev pub endedBy : Row → List Line
+endedBy row = cond (isOver row) (lineOf row ∷ []) []
+
+abbrev pub noRow : Row
+noRow = record { width = 0; kept = 0 }
+
+-- the lines of a row that goes on with more characters
+unfoldable pub flow : Row → List ℕ → List Line
+flow row [] = lineOf row ∷ []
+flow row (c ∷ s) = endedBy (grown row c) ++ flow (leftOf (grown row c)) s
+
+-- octets written at a place, or not
+unfoldable pub putIf : Bool → List ℕ → ℕ → List ℕ → List ℕ
+putIf writes buffer at written = cond writes (splice buffer at written) buffer
