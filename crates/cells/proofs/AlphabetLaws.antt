@@ -1,14 +1,14 @@
 -- The alphabet and its extension over all 128 septets, computed.
 use Prim.Native.Nat.{ℕ, _+_, _%_, _≤_, _<_}
 use mathlib.Core.Path.{_≡_, refl}
-use mathlib.Core.Bool.{Bool, true, cond, _&&_, _||_}
+use mathlib.Core.Bool.{Bool, true, false, cond, _&&_, _||_}
 use mathlib.Core.List.{List, [], _∷_}
 use native.Mathlib.Omega.{arith}
 use lib.Dec.{eqb, leb}
 use types.Run.{OneOf}
-use borrow.Author.Tests.{eqb-true}
+use borrow.Author.Tests.{eqb-true, ne-eqb}
 use Rattle.codes.proofs.Runs.{agree, on}
-use Rattle.cells.specs.Alphabet.{characterOf, ownOf}
+use Rattle.cells.specs.Alphabet.{characterOf, ownOf, extensionOf, madeBy}
 
 -- two numbers agree on a run, but for some keys
 module _ (f g : ℕ → ℕ) (keys : List ℕ) (low n : ℕ) where
@@ -30,3 +30,21 @@ none-below c h = each (λ k. 0) ownOf [] 0 0x0A refl c (omega arith) (omega arit
 pub none-above : (c : ℕ) → 0x40 < c → c < 128 → (c ≡ 0x65 → ⊥) → 0 ≡ ownOf c
 unfolding ownOf
 none-above c h l other = each (λ k. 0) ownOf (0x65 ∷ []) 0x41 63 refl c (omega arith) (omega arith) other
+
+-- the ways through made_by
+module _ (escaped : Bool) (c o : ℕ) (told : o ≡ cond escaped (ownOf c) 0) where
+  pub made-own : (o ≡ 0 → ⊥) → o ≡ madeBy escaped c
+  unfolding extensionOf
+  made-own n = go escaped told
+    where
+      go : (b : Bool) → o ≡ cond b (ownOf c) 0 → o ≡ madeBy b c
+      go true e = rw (← e, ne-eqb o 0 n) refl
+      go false e = absurd (n e)
+
+  pub made-default : o ≡ 0 → characterOf c ≡ madeBy escaped c
+  unfolding extensionOf
+  made-default z = go escaped told
+    where
+      go : (b : Bool) → o ≡ cond b (ownOf c) 0 → characterOf c ≡ madeBy b c
+      go true e = rw (← e, z) refl
+      go false e = refl

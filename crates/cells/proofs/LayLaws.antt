@@ -1,7 +1,7 @@
 -- The walk through the characters of a string: what holds before each of them.
 use Prim.Native.Nat.{ℕ, zero, suc, _+_, _-_, _*_, _/_, _≤_, _<_}
 use mathlib.Core.Path.{_≡_, refl, sym, ap, _∙_}
-use mathlib.Core.Bool.{Bool, true, false, cond, _&&_}
+use mathlib.Core.Bool.{Bool, true, false, cond, not, _&&_, false≢true}
 use mathlib.Core.List.{List, [], _∷_, _++_}
 use native.Mathlib.Nat.{add-zero, zero-add}
 use native.Mathlib.Numerals.{add-one}
@@ -9,41 +9,53 @@ use native.Mathlib.Omega.{arith}
 use lib.ListN.{length, drop, getD, length-append, drop-of-length-le}
 use lib.Seq.{drop-cons}
 use lib.Dec.{eqb, ltb}
-use borrow.Author.Tests.{ltb-true, ltb-false, lt-ltb, le-ltb}
-use Rattle.cells.specs.Septets.{septetsIn, isPadded, septetsFrom, septetsSent, unpacked}
-use Rattle.cells.specs.Alphabet.{escape, space, characterOf, extensionOf}
+use borrow.Author.Tests.{eqb-true, ltb-true, ltb-false}
+use Rattle.octets.proofs.TestLaws.{both}
+use Rattle.cells.specs.Septets.{septetAt, septetsIn, isPadded, septetsSent, unpacked}
+use Rattle.cells.specs.Alphabet.{escape, space, characterOf, extensionOf, madeBy}
 use Rattle.cells.specs.Characters.{characters, stringText}
 use Rattle.cells.specs.Lines.{brokenAt, extent, linesOf, lineOctets}
-use Rattle.cells.specs.Rows.{characterAt, grown, isOver, lineOf, leftOf, endedBy, noRow, flow, putIf}
+use Rattle.cells.specs.Rows.{grown, isOver, lineOf, leftOf, endedBy, noRow, flow, putIf}
 use Rattle.cells.specs.declared.rows.Line.{Line}
 use Rattle.cells.specs.declared.rows.Row.{Row}
-use Rattle.cells.specs.declared.text.Character.{Character}
-use Rattle.cells.proofs.SeptetLaws.{length-septets}
+use Rattle.cells.proofs.SeptetLaws.{length-septets, getD-septets}
 use Rattle.cells.proofs.LineLaws.{extent-least, flow-lines, flow-count, octets-twice}
 use Rattle.cells.proofs.PutLaws.{put-nil, put-put, length-put}
 
--- the character at a septet, and those behind it
+-- a septet that ends the text, and one that is no escape
+alone : (c : ℕ) (s : List ℕ) → s ≡ [] → characters (c ∷ s) ≡ characterOf c ∷ characters s
+unfolding characters
+alone c s e = rw e refl
+
+plain : (c : ℕ) (s : List ℕ) → eqb c escape ≡ false → characters (c ∷ s) ≡ characterOf c ∷ characters s
+unfolding characters
+plain c [] e = refl
+plain c (d ∷ s) e = rw e refl
+
+-- a septet, and those behind it
 module _ (s : List ℕ) (at : ℕ) (h : at < length s) where
-  abbrev Next : Character → Type 0
-  Next c = (characters (drop at s) ≡ c .code ∷ characters (drop (c .next) s)) × ((at < c .next) × (c .next ≤ length s))
+  front : drop at s ≡ getD s at 0 ∷ drop (at + 1) s
+  front = rw (add-one at) (drop-cons s at 0 h)
 
-  alone : drop at s ≡ getD s at 0 ∷ drop (at + 1) s
-  alone = rw (add-one at) (drop-cons s at 0 h)
+  -- an escape that is not the last waits for the next septet
+  waits : getD s at 0 ≡ escape → characters (drop at s) ≡ characters (escape ∷ drop (at + 1) s)
+  waits e = rw (front, e) refl
 
-  behind : at + 1 < length s → drop (at + 1) s ≡ getD s (at + 1) 0 ∷ drop (at + 2) s
-  behind l =
-      let e : at + 2 ≡ suc (at + 1) = omega arith in
-      rw e (drop-cons s (at + 1) 0 l)
+  -- behind an escape
+  paired : characters (escape ∷ drop at s) ≡ extensionOf (getD s at 0) ∷ characters (drop (at + 1) s)
+  unfolding characters
+  paired = rw front refl
 
-  by-tests : (b m : Bool) → eqb (getD s at 0) escape ≡ b → ltb (at + 1) (length s) ≡ m → Next (characterAt s at)
-  unfolding characters characterAt
-  by-tests true true e f = let l = ltb-true (at + 1) (length s) f in rw (f, e) (rw (alone, behind l, e) refl, (omega arith, omega arith))
-  by-tests false true e f = let l = ltb-true (at + 1) (length s) f in rw (f, e) (rw (alone, behind l, e) refl, (omega arith, omega arith))
-  by-tests true false e f = let l = ltb-false (at + 1) (length s) f in rw (f, e) (rw (alone, drop-of-length-le s l) refl, (omega arith, omega arith))
-  by-tests false false e f = let l = ltb-false (at + 1) (length s) f in rw (f, e) (rw (alone, drop-of-length-le s l) refl, (omega arith, omega arith))
-
-  next-character : Next (characterAt s at)
-  next-character = by-tests (eqb (getD s at 0) escape) (ltb (at + 1) (length s)) refl refl
+  -- by itself
+  single : eqb (getD s at 0) escape && ltb (at + 1) (length s) ≡ false → characters (drop at s) ≡ characterOf (getD s at 0) ∷ characters (drop (at + 1) s)
+  single e = rw front (by-tests (eqb (getD s at 0) escape) (ltb (at + 1) (length s)) refl refl e)
+    where
+      by-tests : (b m : Bool) → eqb (getD s at 0) escape ≡ b → ltb (at + 1) (length s) ≡ m → b && m ≡ false
+          → characters (getD s at 0 ∷ drop (at + 1) s) ≡ characterOf (getD s at 0) ∷ characters (drop (at + 1) s)
+      by-tests true true d f g = cc
+      by-tests true false d f g = let l = ltb-false (at + 1) (length s) f in alone (getD s at 0) (drop (at + 1) s) (drop-of-length-le s l)
+      by-tests false false d f g = let l = ltb-false (at + 1) (length s) f in alone (getD s at 0) (drop (at + 1) s) (drop-of-length-le s l)
+      by-tests false true d f g = plain (getD s at 0) (drop (at + 1) s) d
 
 -- no more characters than septets
 few-characters : (s : List ℕ) → length (characters s) ≤ length s
@@ -78,33 +90,35 @@ left-within row h k = go (isOver row) refl
     go true e = let x = extent-least (row .kept) in rw e (omega arith, omega arith)
     go false e = let l = ltb-false 40 (row .width) e in rw e (l, k)
 
--- the characters from a septet on
-abbrev pub from : List ℕ → ℕ → List ℕ
-from string at = characters (drop at (unpacked string))
+-- the characters from a septet on; an escape may wait before it
+abbrev pub from : List ℕ → Bool → ℕ → List ℕ
+from string escaped at = characters (cond escaped (escape ∷ drop at (unpacked string)) (drop at (unpacked string)))
 
--- before the character at a septet: what is written, and what is still to be written behind it, make the whole
-pub record Walked (string text₀ lines₀ : List ℕ) (writes : Bool) (count : ℕ) (text lines : List ℕ) (row : Row) (at written ended : ℕ) : Type 0 where
+-- before a septet: what is written, and what is still to be written behind it, make the whole
+pub record Walked (string text₀ lines₀ : List ℕ) (writes : Bool) (count : ℕ) (text lines : List ℕ) (row : Row) (at : ℕ) (escaped : Bool) (written ended : ℕ) : Type 0 where
   pub counted : count ≡ septetsSent string
   pub within : at ≤ count
+  pub waiting : escaped ≡ true → at < count
   pub narrow : row .width ≤ 40
   pub spaced : row .kept ≤ row .width
   pub textLength : length text ≡ length text₀
   pub linesLength : length lines ≡ length lines₀
-  pub textWhole : putIf writes text written (from string at) ≡ putIf writes text₀ 0 (stringText string)
-  pub textCount : written + length (from string at) ≡ length (stringText string)
-  pub linesWhole : putIf writes lines (2 * ended) (lineOctets (flow row (from string at))) ≡ putIf writes lines₀ 0 (lineOctets (linesOf (stringText string)))
-  pub linesCount : ended + length (flow row (from string at)) ≡ length (linesOf (stringText string))
+  pub textWhole : putIf writes text written (from string escaped at) ≡ putIf writes text₀ 0 (stringText string)
+  pub textCount : written + length (from string escaped at) ≡ length (stringText string)
+  pub linesWhole : putIf writes lines (2 * ended) (lineOctets (flow row (from string escaped at))) ≡ putIf writes lines₀ 0 (lineOctets (linesOf (stringText string)))
+  pub linesCount : ended + length (flow row (from string escaped at)) ≡ length (linesOf (stringText string))
 
 abbrev pub Room : List ℕ → List ℕ → List ℕ → Bool → Type 0
 Room string text lines writes = writes ≡ true → (length (stringText string) ≤ length text) × (2 * length (linesOf (stringText string)) ≤ length lines)
 
 -- at the start
-pub begins : (string text lines : List ℕ) (writes : Bool) (count : ℕ) → count ≡ septetsSent string → Walked string text lines writes count text lines noRow 0 0 0
+pub begins : (string text lines : List ℕ) (writes : Bool) (count : ℕ) → count ≡ septetsSent string → Walked string text lines writes count text lines noRow 0 false 0 0
 unfolding stringText
 begins string text lines writes count e =
     record {
       counted = e;
       within = omega arith;
+      waiting = λ f. absurd (false≢true f);
       narrow = omega arith;
       spaced = omega arith;
       textLength = refl;
@@ -146,122 +160,170 @@ flow-one row (c ∷ s) =
     let b = length-append (endedBy (grown row c)) (flow (leftOf (grown row c)) s) in
     omega arith
 
-module _ {string text₀ lines₀ : List ℕ} {writes : Bool} {count : ℕ} {text lines : List ℕ} {row : Row} {at written ended : ℕ}
-    (w : Walked string text₀ lines₀ writes count text lines row at written ended) where
+module _ {string text₀ lines₀ : List ℕ} {writes : Bool} {count : ℕ} {text lines : List ℕ} {row : Row} {at : ℕ} {escaped : Bool} {written ended : ℕ}
+    (w : Walked string text₀ lines₀ writes count text lines row at escaped written ended) where
   -- what is counted fits
   pub ended-bound : ended + 1 ≤ septetsIn (length string) + 1
   ended-bound =
-      let a = flow-one row (from string at) in
+      let a = flow-one row (from string escaped at) in
       let b = line-bound string in
       let e = w .linesCount in
       omega arith
 
+  -- one more septet
   module _ (more : at < count) where
-    abbrev here : Character
-    here = characterAt (unpacked string) at
+    inside : at < length (unpacked string)
+    inside = let b = length-septets string 0 (septetsSent string) in let e = w .counted in omega arith
 
-    abbrev over : Row
-    over = grown row (here .code)
+    abbrev septet : ℕ
+    septet = septetAt string at
 
-    next : Next (unpacked string) at (rw (length-septets string 0 (septetsSent string), ← w .counted) more) here
-    next = next-character (unpacked string) at (rw (length-septets string 0 (septetsSent string), ← w .counted) more)
+    there : getD (unpacked string) at 0 ≡ septet
+    there = getD-septets string 0 (septetsSent string) at (let e = w .counted in omega arith) ∙ ap (septetAt string) (zero-add at)
 
-    pub onward : (at < here .next) × (here .next ≤ count)
-    onward =
-        let a = next .1 .1 in
-        let b = length-septets string 0 (septetsSent string) in
-        let e = w .counted in
-        (next .1 .0, omega arith)
+    -- the code's test: an escape that is not behind another, and not the last
+    abbrev waitsNow : Bool → Bool
+    waitsNow b = not b && eqb septet escape && ltb (at + 1) count
 
-    text-left : written + suc (length (from string (here .next))) ≡ length (stringText string)
-    text-left = rw (next .0) at (w .textCount)
+    all-there : length (unpacked string) ≡ count
+    all-there = length-septets string 0 (septetsSent string) ∙ sym (w .counted)
 
-    lines-left : ended + length (endedBy over) + length (flow (leftOf over) (from string (here .next))) ≡ length (linesOf (stringText string))
-    unfolding flow
-    lines-left =
-        let a = length-append (endedBy over) (flow (leftOf over) (from string (here .next))) in
-        let e = rw (next .0) at (w .linesCount) in
-        omega arith
+    waits-on : (b : Bool) → waitsNow b ≡ true → (from string b at ≡ from string true (at + 1)) × (at + 1 < count)
+    waits-on true e = absurd (false≢true e)
+    waits-on false e =
+        let t = both (eqb septet escape) (ltb (at + 1) count) e in
+        (waits (unpacked string) at inside (there ∙ eqb-true septet escape (t .0)), ltb-true (at + 1) count (t .1))
 
-    pub written-bound : written + 1 ≤ septetsIn (length string)
-    written-bound = let a = text-bound string in let e = text-left in omega arith
+    gives : (b : Bool) → waitsNow b ≡ false → from string b at ≡ madeBy b septet ∷ from string false (at + 1)
+    gives true e = paired (unpacked string) at inside ∙ rw there refl
+    gives false e = single (unpacked string) at inside (rw (there, all-there) e) ∙ rw there refl
 
-    pub over-within : (over .width ≤ 41) × (over .kept ≤ over .width)
-    over-within = let n = w .narrow in (omega arith, kept-within row (here .code) (w .spaced))
+    waited : waitsNow escaped ≡ true → Walked string text₀ lines₀ writes count text lines row (at + 1) true written ended
+    waited e =
+        let g = waits-on escaped e in
+        record {
+          counted = w .counted;
+          within = omega arith;
+          waiting = λ f. g .1;
+          narrow = w .narrow;
+          spaced = w .spaced;
+          textLength = w .textLength;
+          linesLength = w .linesLength;
+          textWhole = rw (g .0) at (w .textWhole);
+          textCount = rw (g .0) at (w .textCount);
+          linesWhole = rw (g .0) at (w .linesWhole);
+          linesCount = rw (g .0) at (w .linesCount);
+        }
 
-    -- what the code got from its calls: the character, and the row with it
-    module _ (ch : Character) (told : ch ≡ characterAt (septetsFrom string 0 count) at) where
-      same : ch ≡ here
-      same = told ∙ ap (λ (n : ℕ). characterAt (septetsFrom string 0 n) at) (w .counted)
+    -- a character, and the row with it
+    module _ (given : waitsNow escaped ≡ false) where
+      abbrev code : ℕ
+      code = madeBy escaped septet
 
-      pub onward-there : (at < ch .next) × (ch .next ≤ count)
-      onward-there = rw same onward
+      abbrev over : Row
+      over = grown row code
 
-      module _ (g : Row) (grows : g ≡ grown row (ch .code)) where
-        pub over-there : g ≡ over
-        over-there = grows ∙ ap (λ (k : Character). grown row (k .code)) same
+      text-left : written + suc (length (from string false (at + 1))) ≡ length (stringText string)
+      text-left = rw (gives escaped given) at (w .textCount)
 
-        pub within-there : g .kept ≤ g .width
-        within-there = rw over-there (over-within .1)
-
-    module _ (room : Room string text₀ lines₀ writes) where
-      pub text-room : writes ≡ true → written < length text
-      text-room y = let r = room y in let e = text-left in let l = w .textLength in omega arith
-
-      pub lines-room : writes ≡ true → 2 * ended + length (lineOctets (endedBy over)) ≤ length lines
-      lines-room y =
-          let r = room y in
-          let e = lines-left in
-          let l = w .linesLength in
-          let t = octets-twice (endedBy over) in
+      lines-left : ended + length (endedBy over) + length (flow (leftOf over) (from string false (at + 1))) ≡ length (linesOf (stringText string))
+      unfolding flow
+      lines-left =
+          let a = length-append (endedBy over) (flow (leftOf over) (from string false (at + 1))) in
+          let e = rw (gives escaped given) at (w .linesCount) in
           omega arith
 
-      -- a turn: the character and the line that it ends are written
-      pub goes-on : Walked string text₀ lines₀ writes count (putIf writes text written (here .code ∷ []))
-          (putIf writes lines (2 * ended) (lineOctets (endedBy over))) (leftOf over) (here .next) (written + 1) (ended + length (endedBy over))
-      unfolding flow
-      goes-on =
-          let r = from string (here .next) in
-          let f = flow (leftOf over) r in
-          let t = octets-twice (endedBy over) in
-          let u = octets-twice f in
-          let l = left-within over (over-within .0) (over-within .1) in
-          let e : 2 * (ended + length (endedBy over)) ≡ 2 * ended + length (lineOctets (endedBy over)) = omega arith in
-          let p : writes ≡ true → written + 1 + length r ≤ length text =
-          λ y. let m = room y in let a = text-left in let b = w .textLength in omega arith in
-          let q : writes ≡ true → 2 * ended + length (lineOctets (endedBy over)) + length (lineOctets f) ≤ length lines =
-          λ y. let m = room y in let a = lines-left in let b = w .linesLength in omega arith in
-          record {
-            counted = w .counted;
-            within = onward .1;
-            narrow = l .0;
-            spaced = l .1;
-            textLength = length-put writes text written (here .code ∷ []) (λ y. let m = text-room y in omega arith) ∙ w .textLength;
-            linesLength = length-put writes lines (2 * ended) (lineOctets (endedBy over)) lines-room ∙ w .linesLength;
-            textWhole = put-put writes text written (here .code ∷ []) r p ∙ (rw (next .0) at (w .textWhole));
-            textCount = let a = text-left in omega arith;
-            linesWhole = rw e (put-put writes lines (2 * ended) (lineOctets (endedBy over)) (lineOctets f) q ∙ rw (← octets-append (endedBy over) f) (rw (next .0) at (w .linesWhole)));
-            linesCount = lines-left;
-          }
+      written-bound : written + 1 ≤ septetsIn (length string)
+      written-bound = let a = text-bound string in let e = text-left in omega arith
 
-      -- the same, by what the code got from its calls
-      module _ (ch : Character) (told : ch ≡ characterAt (septetsFrom string 0 count) at) (g : Row) (grows : g ≡ grown row (ch .code)) where
-        pub room-there : writes ≡ true → 2 * ended + length (lineOctets (endedBy g)) ≤ length lines
-        room-there = rw (over-there ch told g grows) lines-room
+      over-within : (over .width ≤ 41) × (over .kept ≤ over .width)
+      over-within = let n = w .narrow in (omega arith, kept-within row code (w .spaced))
 
-        pub turned : (y z : List ℕ) (left : Row) (e : ℕ) → y ≡ putIf writes text written (ch .code ∷ []) → z ≡ putIf writes lines (2 * ended) (lineOctets (endedBy g))
-            → e ≡ ended + length (endedBy g) → left ≡ leftOf g → Walked string text₀ lines₀ writes count y z left (ch .next) (written + 1) e
-        turned y z left e p q r t = rw (p, q, r, t, over-there ch told g grows, same ch told) goes-on
+      module _ (room : Room string text₀ lines₀ writes) where
+        text-room : writes ≡ true → written < length text
+        text-room y = let r = room y in let e = text-left in let l = w .textLength in omega arith
+
+        lines-room : writes ≡ true → 2 * ended + length (lineOctets (endedBy over)) ≤ length lines
+        lines-room y =
+            let r = room y in
+            let e = lines-left in
+            let l = w .linesLength in
+            let t = octets-twice (endedBy over) in
+            omega arith
+
+        -- a turn: the character and the line that it ends are written
+        goes-on : Walked string text₀ lines₀ writes count (putIf writes text written (code ∷ []))
+            (putIf writes lines (2 * ended) (lineOctets (endedBy over))) (leftOf over) (at + 1) false (written + 1) (ended + length (endedBy over))
+        unfolding flow
+        goes-on =
+            let r = from string false (at + 1) in
+            let f = flow (leftOf over) r in
+            let t = octets-twice (endedBy over) in
+            let u = octets-twice f in
+            let l = left-within over (over-within .0) (over-within .1) in
+            let e : 2 * (ended + length (endedBy over)) ≡ 2 * ended + length (lineOctets (endedBy over)) = omega arith in
+            let p : writes ≡ true → written + 1 + length r ≤ length text =
+            λ y. let m = room y in let a = text-left in let b = w .textLength in omega arith in
+            let q : writes ≡ true → 2 * ended + length (lineOctets (endedBy over)) + length (lineOctets f) ≤ length lines =
+            λ y. let m = room y in let a = lines-left in let b = w .linesLength in omega arith in
+            let g = gives escaped given in
+            record {
+              counted = w .counted;
+              within = omega arith;
+              waiting = λ y. absurd (false≢true y);
+              narrow = l .0;
+              spaced = l .1;
+              textLength = length-put writes text written (code ∷ []) (λ y. let m = text-room y in omega arith) ∙ w .textLength;
+              linesLength = length-put writes lines (2 * ended) (lineOctets (endedBy over)) lines-room ∙ w .linesLength;
+              textWhole = put-put writes text written (code ∷ []) r p ∙ (rw g at (w .textWhole));
+              textCount = let a = text-left in omega arith;
+              linesWhole = rw e (put-put writes lines (2 * ended) (lineOctets (endedBy over)) (lineOctets f) q ∙ rw (← octets-append (endedBy over) f) (rw g at (w .linesWhole)));
+              linesCount = lines-left;
+            }
+
+  -- the same, by what the code got from its calls
+  module _ (more : at < count) (x : ℕ) (read : x ≡ septetAt string at) where
+    pub waits-there : not escaped && eqb x escape && ltb (at + 1) count ≡ true → Walked string text₀ lines₀ writes count text lines row (at + 1) true written ended
+    waits-there e = waited more (rw read at e)
+
+    module _ (given : not escaped && eqb x escape && ltb (at + 1) count ≡ false) where
+      told : waitsNow more escaped ≡ false
+      told = rw read at given
+
+      pub bound-there : written + 1 ≤ septetsIn (length string)
+      bound-there = written-bound more told
+
+      pub text-there : Room string text₀ lines₀ writes → writes ≡ true → written < length text
+      text-there = text-room more told
+
+      module _ (c : ℕ) (made : c ≡ madeBy escaped x) (g : Row) (grows : g ≡ grown row c) where
+        same : g ≡ over more told
+        same = grows ∙ ap (grown row) (made ∙ ap (madeBy escaped) read)
+
+        pub within-there : g .kept ≤ g .width
+        within-there = rw same (over-within more told .1)
+
+        module _ (room : Room string text₀ lines₀ writes) where
+          pub room-there : writes ≡ true → 2 * ended + length (lineOctets (endedBy g)) ≤ length lines
+          room-there = rw same (lines-room more told room)
+
+          pub turned : (y z : List ℕ) (left : Row) (e : ℕ) → y ≡ putIf writes text written (c ∷ []) → z ≡ putIf writes lines (2 * ended) (lineOctets (endedBy g))
+              → e ≡ ended + length (endedBy g) → left ≡ leftOf g → Walked string text₀ lines₀ writes count y z left (at + 1) false (written + 1) e
+          turned y z left e p q r t = rw (p, q, r, t, same, made, read) (goes-on more told room)
 
   -- at the end nothing is left, and the row makes the last line
   module _ (done : count ≤ at) where
-    none-left : from string at ≡ []
+    calm : (b : Bool) → (b ≡ true → at < count) → from string b at ≡ []
     unfolding characters
-    none-left =
+    calm true f = let l = f refl in absurd (omega arith)
+    calm false f =
         let b = length-septets string 0 (septetsSent string) in
         let e = w .counted in
         let l : length (unpacked string) ≤ at = omega arith in
         rw (drop-of-length-le (unpacked string) l) refl
+
+    none-left : from string escaped at ≡ []
+    none-left = calm escaped (w .waiting)
 
     pub all-written : text ≡ putIf writes text₀ 0 (stringText string)
     all-written = sym (put-nil writes text written) ∙ (rw none-left at (w .textWhole))

@@ -1,45 +1,12 @@
--- The ways through the functions that read a character and break a line.
-use Prim.Native.Nat.{ℕ, zero, suc, _+_, _-_, _≤_, _<_}
-use mathlib.Core.Path.{_≡_, refl, ap, _∙_}
-use mathlib.Core.Bool.{Bool, true, false, _&&_}
-use mathlib.Core.List.{List, [], _∷_}
-use native.Mathlib.Nat.{zero-add}
+-- The ways through the functions that break a line.
+use Prim.Native.Nat.{ℕ, zero, suc, _-_, _≤_, _<_}
+use mathlib.Core.Path.{_≡_, refl}
+use mathlib.Core.List.{[], _∷_}
 use native.Mathlib.Omega.{arith}
-use lib.ListN.{getD}
-use lib.Dec.{eqb, ltb}
-use borrow.Author.Tests.{eq-eqb, lt-ltb, le-ltb, ltb-true, eqb-true}
-use Rattle.octets.proofs.TestLaws.{both}
-use Rattle.cells.specs.Septets.{septetAt, septetsFrom}
-use Rattle.cells.specs.Alphabet.{escape, characterOf, extensionOf}
+use borrow.Author.Tests.{lt-ltb, le-ltb}
 use Rattle.cells.specs.Lines.{line, brokenAt, extent}
-use Rattle.cells.specs.Rows.{characterAt, lineOf, leftOf, endedBy}
-use Rattle.cells.specs.declared.rows.Line.{Line}
+use Rattle.cells.specs.Rows.{lineOf, leftOf, endedBy}
 use Rattle.cells.specs.declared.rows.Row.{Row}
-use Rattle.cells.specs.declared.text.Character.{Character}
-use Rattle.cells.proofs.SeptetLaws.{length-septets, getD-septets}
-
-abbrev character : ℕ → ℕ → Character
-character code next = record { code = code; next = next }
-
-module _ (s : List ℕ) (n at : ℕ) where
-  abbrev escaped : Bool
-  escaped = eqb (septetAt s at) escape && ltb (at + 1) n
-
-  pub one-more : escaped ≡ true → at + 1 < n
-  one-more e = ltb-true (at + 1) n (both (eqb (septetAt s at) escape) (ltb (at + 1) n) e .1)
-
-  pub escaped-at : escaped ≡ true → at < n → character (extensionOf (septetAt s (at + 1))) (at + 2) ≡ characterAt (septetsFrom s 0 n) at
-  unfolding characterAt
-  escaped-at e h =
-      let a : getD (septetsFrom s 0 n) at 0 ≡ septetAt s at = getD-septets s 0 n at h ∙ ap (septetAt s) (zero-add at) in
-      let b : getD (septetsFrom s 0 n) (at + 1) 0 ≡ septetAt s (at + 1) = getD-septets s 0 n (at + 1) (one-more e) ∙ ap (septetAt s) (zero-add (at + 1)) in
-      rw (a, length-septets s 0 n, e, b)
-
-  pub plain-at : escaped ≡ false → at < n → character (characterOf (septetAt s at)) (at + 1) ≡ characterAt (septetsFrom s 0 n) at
-  unfolding characterAt
-  plain-at e h =
-      let a : getD (septetsFrom s 0 n) at 0 ≡ septetAt s at = getD-septets s 0 n at h ∙ ap (septetAt s) (zero-add at) in
-      rw (a, length-septets s 0 n, e)
 
 -- a line broken at its last space
 broken-there : (kept : ℕ) → (kept ≡ 0 → ⊥) → line (kept - 1) 1 ≡ brokenAt kept

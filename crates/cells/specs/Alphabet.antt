@@ -1,7 +1,7 @@
 -- GSM 03.38, the default alphabet and its extension table: the code point of each septet.
 use Prim.Native.Nat.{ℕ}
 use mathlib.Core.List.{List, [], _∷_}
-use mathlib.Core.Bool.{cond}
+use mathlib.Core.Bool.{Bool, cond}
 use lib.ListN.{getD}
 use lib.Dec.{eqb}
 
@@ -47,3 +47,7 @@ ownOf code =
 -- "and every other code gives the character of the default alphabet at that code"
 unfoldable pub extensionOf : ℕ → ℕ
 extensionOf code = cond (eqb (ownOf code) 0) (characterOf code) (ownOf code)
+
+-- the character that a septet makes, behind an escape or by itself
+abbrev pub madeBy : Bool → ℕ → ℕ
+madeBy escaped septet = cond escaped (extensionOf septet) (characterOf septet)

@@ -1,21 +1,13 @@
 -- How the code goes: one character after the other, with what it holds of the line that has begun.
-use Prim.Native.Nat.{ℕ, suc, _+_, _-_}
+use Prim.Native.Nat.{ℕ, suc, _-_}
 use mathlib.Core.List.{List, [], _∷_, _++_}
-use mathlib.Core.Bool.{Bool, cond, _&&_}
-use lib.ListN.{length, getD, drop}
+use mathlib.Core.Bool.{Bool, cond}
 use lib.Dec.{eqb, ltb}
 use Rattle.octets.specs.Splice.{splice}
-use Rattle.cells.specs.Alphabet.{escape, space, characterOf, extensionOf}
+use Rattle.cells.specs.Alphabet.{space}
 use Rattle.cells.specs.Lines.{line, brokenAt, extent}
 use Rattle.cells.specs.declared.rows.Line.{Line}
 use Rattle.cells.specs.declared.rows.Row.{Row}
-use Rattle.cells.specs.declared.text.Character.{Character}
-
--- the character that begins at a septet, and where the next begins
-unfoldable pub characterAt : List ℕ → ℕ → Character
-characterAt s at =
-    cond (eqb (getD s at 0) escape && ltb (at + 1) (length s)) (record { code = extensionOf (getD s (at + 1) 0); next = at + 2 })
-    (record { code = characterOf (getD s at 0); next = at + 1 })
 
 -- a line with one character more: its width, and how much of it stands up to the last space
 abbrev pub grown : Row → ℕ → Row

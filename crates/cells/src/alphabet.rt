@@ -1,7 +1,8 @@
 // The default alphabet of GSM 03.38 and its extension table.
 ghost use mathlib.Core.Path.{_≡_};
+ghost use mathlib.Core.Bool.{cond};
 ghost use Prim.Native.Nat.{_+_, _%_, _<_};
-ghost use Rattle.cells.specs.Alphabet.{characterOf, ownOf, extensionOf};
+ghost use Rattle.cells.specs.Alphabet.{characterOf, ownOf, madeBy};
 
 // The low octet of each character. The high one is 03 for the Greek letters and 00 for the others.
 const ALPHABET: [u8; 128] = [
@@ -201,7 +202,7 @@ fn low_of(septet: u8) -> u8
     ALPHABET[septet as usize]
 }
 
-pub fn character_of(septet: u8) -> u16
+fn character_of(septet: u8) -> u16
     requires { ⌜ septet < 128 ⌝ }
     ensures { λ r. ⌜ r ≡ characterOf septet ⌝ }
 {
@@ -220,10 +221,13 @@ fn own_from_0a(k: u8) -> u8
 }
 
 // The character that a code has of its own behind an escape, or 0. The euro sign is the one that needs two octets.
-fn own_of(code: u8) -> u16
+fn own_of(escaped: bool, code: u8) -> u16
     requires { ⌜ code < 128 ⌝ }
-    ensures { λ r. ⌜ r ≡ ownOf code ⌝ }
+    ensures { λ r. ⌜ r ≡ cond escaped (ownOf code) 0 ⌝ }
 {
+    if !escaped {
+        return 0;
+    }
     if code == 0x65 {
         return 0x20AC;
     }
@@ -236,13 +240,14 @@ fn own_of(code: u8) -> u16
     own_from_0a(code - 0x0A) as u16
 }
 
-pub fn extension_of(code: u8) -> u16
-    requires { ⌜ code < 128 ⌝ }
-    ensures { λ r. ⌜ r ≡ extensionOf code ⌝ }
+// The character that a septet makes, behind an escape or by itself.
+pub fn made_by(escaped: bool, septet: u8) -> u16
+    requires { ⌜ septet < 128 ⌝ }
+    ensures { λ r. ⌜ r ≡ madeBy escaped septet ⌝ }
 {
-    let own = own_of(code);
+    let own = own_of(escaped, septet);
     if own != 0 {
         return own;
     }
-    character_of(code)
+    character_of(septet)
 }

@@ -2,14 +2,14 @@
 mod alphabet;
 mod rows;
 mod septets;
-mod text;
 
+use crate::alphabet::made_by;
 use crate::rows::Row;
 use crate::rows::grow;
 use crate::rows::left_of;
 use crate::rows::line_of;
+use crate::septets::septet_at;
 use crate::septets::septets_sent;
-use crate::text::character_at;
 ghost use mathlib.Core.Path.{_≡_};
 ghost use mathlib.Core.List.{[], _∷_};
 ghost use mathlib.Core.Bool.{true};
@@ -79,17 +79,23 @@ fn lay(string: &[u8], text: &mut [u16], lines: &mut [u8], writes: bool) -> Exten
     let count = septets_sent(string);
     let mut row = Row { width: 0, kept: 0 };
     let mut at = 0;
+    let mut escaped = false;
     let mut characters = 0;
     let mut ended = 0;
     while at < count {
-        let character = character_at(string, count, at);
-        let code = character.code;
+        let septet = septet_at(string, at);
+        at += 1;
+        if !escaped & (septet == 0x1B) & (at < count) {
+            escaped = true;
+            continue;
+        }
+        let code = made_by(escaped, septet);
         put_character(text, characters, code, writes);
         let over = grow(row, code);
         ended = end_line(lines, ended, over, writes);
         row = left_of(over);
         characters += 1;
-        at = character.next;
+        escaped = false;
     }
     put_line(lines, ended, row, writes);
     Extent {

@@ -26,7 +26,7 @@ pub fn septet_at(string: &[u8], i: usize) -> u8
     (((low + 256 * high) >> (bits % 8)) % 128) as u8
 }
 
-// How many septets are sent: a carriage return that fills the last octet is none.
+// How many septets are sent: a carriage return that fills the last octet is none. It is the upper seven bits of that octet.
 pub fn septets_sent(string: &[u8]) -> usize
     ensures { λ r. ⌜ r ≡ septetsSent (now (string .entry)) ⌝ }
 {
@@ -38,7 +38,7 @@ pub fn septets_sent(string: &[u8]) -> usize
     if n == 0 {
         return 0;
     }
-    if septet_at(string, held - 1) != 13 {
+    if string[n - 1] / 2 != 0x0D {
         return held;
     }
     held - 1
