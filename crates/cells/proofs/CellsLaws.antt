@@ -8,7 +8,7 @@ use lib.ListN.{length}
 use borrow.Author.Tests.{eq-eqb, ne-eqb, le-leb, lt-leb}
 use Rattle.cells.specs.Characters.{stringText}
 use Rattle.cells.specs.Lines.{linesOf}
-use Rattle.cells.specs.Cells.{refusedLayout, layout, cells}
+use Rattle.cells.specs.Cells.{refusedLayout, laidOut, cells}
 
 module _ (scheme : ℕ) (string text lines : List ℕ) where
   pub other-scheme : (scheme ≡ 15 → ⊥) → cells scheme string text lines ≡ refusedLayout 40 text lines
@@ -25,6 +25,6 @@ module _ (scheme : ℕ) (string text lines : List ℕ) where
       unfolding cells
       short-lines h = rw (eq-eqb _ _ e, le-leb _ _ fits, lt-leb (length (linesOf (stringText string))) (length lines / 2) h) refl
 
-      pub with-room : length (linesOf (stringText string)) ≤ length lines / 2 → cells scheme string text lines ≡ layout string text lines
+      pub with-room : length (linesOf (stringText string)) ≤ length lines / 2 → cells scheme string text lines ≡ laidOut (stringText string) text lines
       unfolding cells
       with-room h = rw (eq-eqb _ _ e, le-leb _ _ fits, le-leb (length (linesOf (stringText string))) (length lines / 2) h) refl

@@ -7,5 +7,6 @@ pub mod LineLaws
 pub mod BrokenLaws
 pub mod FewLaws
 mod PutLaws
-mod LayLaws
+pub mod LayLaws
 pub mod CellsLaws
+pub mod RoomLaws

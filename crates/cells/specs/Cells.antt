@@ -31,13 +31,13 @@ extentOf string = record { characters = length (stringText string); lines = leng
 abbrev pub hasRoom : List ℕ → ℕ → ℕ → Bool
 hasRoom string characters octets = leb (length (stringText string)) characters && leb (length (linesOf (stringText string))) (octets / 2)
 
--- "what stands behind the part written stays as lent"
-abbrev pub layout : List ℕ → List ℕ → List ℕ → Layout
-layout string text lines =
+-- a text and its lines; "what stands behind the part written stays as lent"
+abbrev pub laidOut : List ℕ → List ℕ → List ℕ → Layout
+laidOut characters text lines =
     record {
-      laid = record { code = 0; characters = length (stringText string); lines = length (linesOf (stringText string)) };
-      text = splice text 0 (stringText string);
-      lines = splice lines 0 (lineOctets (linesOf (stringText string)));
+      laid = record { code = 0; characters = length characters; lines = length (linesOf characters) };
+      text = splice text 0 characters;
+      lines = splice lines 0 (lineOctets (linesOf characters));
     }
 
 -- "Refusals: 40 another coding scheme, 41 output too short, in that order."
@@ -45,4 +45,4 @@ unfoldable pub cells : ℕ → List ℕ → List ℕ → List ℕ → Layout
 cells scheme string text lines =
     unless (eqb scheme 0x0F) (refusedLayout 40 text lines)
     (unless (hasRoom string (length text) (length lines)) (refusedLayout 41 text lines)
-    (layout string text lines))
+    (laidOut (stringText string) text lines))

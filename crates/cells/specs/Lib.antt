@@ -6,3 +6,4 @@ pub mod Rows
 pub mod Cells
 pub mod Packing
 pub mod Broken
+pub mod Room
