@@ -8,11 +8,12 @@ use native.Mathlib.Omega.{arith}
 use lib.IntN.{ℤ}
 use lib.ListN.{length, length-append}
 use lib.Dec.{eqb, ltb, leb}
-use borrow.Author.Tests.{eqb-true, ltb-false, le-leb, ne-eqb}
+use borrow.Author.Tests.{eqb-true, ltb-false, leb-true, le-leb, eq-eqb, ne-eqb}
 use Rattle.codes.specs.Ids.{octetOf}
+use Rattle.octets.proofs.TestLaws.{both as both-hold}
 use Rattle.printing.specs.Numbers.{decimalBy, decimal, idText, glyph, pair}
 use Rattle.printing.specs.Lines.{folded, when, octetsLine, numberLine, idLine, problemLine}
-use Rattle.printing.specs.Forty.{fortyFrom, forty, plain}
+use Rattle.printing.specs.Forty.{goesOn, fortyFrom, forty, plain}
 
 -- what follows from a test's outcome, on either side of it
 on-cond : (b : Bool) {x y v w : Bool} → (x ≡ true → v ≡ true) → (y ≡ true → w ≡ true) → cond b x y ≡ true → cond b v w ≡ true
@@ -30,11 +31,28 @@ from-append : (column : ℕ) (a b : List ℕ) → fortyFrom column a ≡ true �
 unfolding fortyFrom
 from-append column [] b h k = rw (eqb-true column 0 h) k
 from-append column (c ∷ a) b h k =
-    on-cond (eqb c 10) (on-and (leb column 40) (λ e. from-append 0 a b e k)) (λ e. from-append (suc column) a b e k) h
+    on-cond (eqb c 10) (on-and (leb column 40) (λ e. from-append 0 a b e k)) (λ e. from-append (cond (goesOn c) column (suc column)) a b e k) h
 
 pub forty-append : (a b : List ℕ) → forty a ≡ true → forty b ≡ true → forty (a ++ b) ≡ true
 unfolding forty
 forty-append a b h k = from-append 0 a b h k
+
+-- a line that goes on well behind so many characters does so behind fewer
+ends-sooner : (j k : ℕ) (rest : Bool) → j ≤ k → (leb k 40 && rest) ≡ true → (leb j 40 && rest) ≡ true
+ends-sooner j k rest l h =
+    let e = both-hold (leb k 40) rest h in
+    let m = leb-true k 40 (e .0) in
+    both (le-leb j 40 (omega arith)) (e .1)
+
+columns : (on : Bool) (j k : ℕ) → j ≤ k → cond on j (suc j) ≤ cond on k (suc k)
+columns true j k l = l
+columns false j k l = omega arith
+
+fewer : (j k : ℕ) (s : List ℕ) → j ≤ k → fortyFrom k s ≡ true → fortyFrom j s ≡ true
+unfolding fortyFrom
+fewer j k [] l h = let z = eqb-true k 0 h in eq-eqb j 0 (omega arith)
+fewer j k (c ∷ s) l h =
+    on-cond (eqb c 10) (ends-sooner j k (fortyFrom 0 s) l) (λ e. fewer (cond (goesOn c) j (suc j)) (cond (goesOn c) k (suc k)) s (columns (goesOn c) j k l) e) h
 
 -- a line that may be left out
 pub forty-when : (there : Bool) (line : List ℕ) → forty line ≡ true → forty (when there line) ≡ true
@@ -56,14 +74,20 @@ past : (b p q r : Bool) → (not b && p) ≡ true → (p ≡ true → r ≡ true
 past true p q r h k = cc
 past false p q r h k = k h
 
+-- an octet is one character at most
+one-at-most : (on : Bool) (column n : ℕ) → cond on column (suc column) + n ≤ column + suc n
+one-at-most true column n = omega arith
+one-at-most false column n = omega arith
+
 behind : (column : ℕ) (w s : List ℕ) → plain w ≡ true → fortyFrom (column + length w) s ≡ true → fortyFrom column (w ++ s) ≡ true
 unfolding fortyFrom plain
 behind column [] s h k = rw add-zero at k
 behind column (c ∷ w) s h k =
-    let e : column + suc (length w) ≡ suc column + length w = omega arith in
-    past (eqb c 10) (plain w) (leb column 40 && fortyFrom 0 (w ++ s)) (fortyFrom (suc column) (w ++ s)) h (λ p. behind (suc column) w s p (rw e at k))
+    let next : ℕ = cond (goesOn c) column (suc column) in
+    past (eqb c 10) (plain w) (leb column 40 && fortyFrom 0 (w ++ s)) (fortyFrom next (w ++ s)) h
+    (λ p. behind next w s p (fewer (next + length w) (column + suc (length w)) s (one-at-most (goesOn c) column (length w)) k))
 
-line-end : (column : ℕ) → column ≤ 40 → fortyFrom column (10 ∷ []) ≡ true
+pub line-end : (column : ℕ) → column ≤ 40 → fortyFrom column (10 ∷ []) ≡ true
 unfolding fortyFrom
 line-end column h = rw (le-leb column 40 h)
 

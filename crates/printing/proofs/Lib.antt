@@ -1,4 +1,7 @@
 pub mod FortyLaws
+pub mod TextFortyLaws
+pub mod Worked
 mod DecimalLaws
 mod FoldLaws
+mod CellLaws
 pub mod JoinLaws

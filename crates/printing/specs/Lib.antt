@@ -1,4 +1,5 @@
 pub mod Page
 pub mod Numbers
 pub mod Lines
+pub mod Utf8
 pub mod Forty

@@ -9,6 +9,7 @@ use Rattle.promises.proofs.Worked.{worked, w1-received}
 use Rattle.promises.proofs.Editions.{editions}
 use Rattle.promises.proofs.ErrorCases.{error-cases}
 use Rattle.promises.proofs.NeverDamaged.{never-damaged}
+use Rattle.promises.proofs.Felt.{felt-holds}
 
 pub all : All
-all = (demand-1, (demand-2, (demand-3, (stands, (exact, (determined, (worked, (w1-received, (editions, (error-cases, never-damaged))))))))))
+all = (demand-1, (demand-2, (demand-3, (stands, (exact, (determined, (worked, (w1-received, (editions, (error-cases, (never-damaged, felt-holds)))))))))))

@@ -22,4 +22,5 @@ pub mod Worked
 pub mod Editions
 pub mod ErrorCases
 pub mod NeverDamaged
+pub mod Felt
 pub mod All

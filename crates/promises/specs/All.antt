@@ -9,6 +9,7 @@ use Rattle.promises.specs.Worked.{Worked, W1Received}
 use Rattle.promises.specs.Editions.{Editions}
 use Rattle.promises.specs.ErrorCases.{ErrorCases}
 use Rattle.promises.specs.NeverDamaged.{NeverDamaged}
+use Rattle.promises.specs.Felt.{Felt}
 
 abbrev pub All : Type 1
-All = Demand1 × (Demand2 × (Demand3 × (PartsStand × (Exact × (Determined × (Worked × (W1Received × (Editions × (ErrorCases × NeverDamaged)))))))))
+All = Demand1 × (Demand2 × (Demand3 × (PartsStand × (Exact × (Determined × (Worked × (W1Received × (Editions × (ErrorCases × (NeverDamaged × Felt))))))))))

@@ -5,7 +5,8 @@ use native.Mathlib.Omega.{arith}
 use lib.ListN.{length, drop}
 use Rattle.octets.specs.Splice.{splice}
 use Rattle.printing.specs.Lines.{folded}
-use Rattle.printing.proofs.FoldLaws.{folded-length, turn, ended}
+use Rattle.printing.proofs.FoldLaws.{folded-length, first, none-left}
+use Rattle.printing.proofs.JoinLaws.{piece, ended}
 use Rattle.printing.proofs.lines.put_folded.Statement.{statement}
 use Rattle.printing.proofs.lines.put_folded.Tie as tie
 use Rattle.printing.proofs.lines.put_folded.Reads as reads
@@ -48,7 +49,8 @@ loop-again c =
     let l = c .before .before .before .before .before .before .before .loop in
     let p = c .before .before .before .put-next in
     let b = folded-length (a .column) (a .octets .now) in
-    let t = turn (l .page) (l .place) (l .width) (l .i) (a .octets .now) (p .last .0) (p .result) (c .before .before .before .before .before .before .loop-test .taken) (omega arith) (p .ensures .0, p .ensures .1 .0) in
+    let f = first (l .width) (l .i) (a .octets .now) (c .before .before .before .before .before .before .loop-test .taken) in
+    let t = piece (l .page) (l .place) (folded (l .width) (drop (l .i) (a .octets .now))) _ _ (p .last .0) (p .result) f (omega arith) (p .ensures .0, p .ensures .1 .0) in
     (omega arith, (omega arith, (p .kept .0 ∙ l .inv .1 .1 .0, rw (c .next-column .ensures) (t .0 ∙ l .inv .1 .1 .1 .0, t .1 ∙ l .inv .1 .1 .1 .1))))
 
 same-length : tie.Need-same-length Inv-loop μ-loop
@@ -58,7 +60,7 @@ returns : tie.Need-returns Inv-loop μ-loop
 returns c =
     let a = c .before .before .before .before .args in
     let l = c .before .loop in
-    let e = ended (l .page) (l .place) (l .width) (l .i) (a .octets .now) (c .loop-test .left) in
+    let e = ended (l .page) (l .place) (folded (l .width) (drop (l .i) (a .octets .now))) (none-left (l .width) (l .i) (a .octets .now) (c .loop-test .left)) in
     (sym (e .0) ∙ l .inv .1 .1 .1 .0, (omega arith, omega arith))
 
 pub put-folded-spec : {M : Type 1} → statement M
