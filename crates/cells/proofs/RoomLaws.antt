@@ -110,3 +110,14 @@ not-refused scheme string text lines e = go (eqb scheme 0x0F) (hasRoom string (l
 
 pub read-in-c : ReadInC
 read-in-c scheme string text lines e = rw (not-refused scheme string text lines e) (at-front text (stringText string), rw (← octets-twice (linesOf (stringText string))) (at-front lines (lineOctets (linesOf (stringText string)))))
+
+-- the lines that are told have room, and so have none
+pub lines-fit : (scheme : ℕ) (string text lines : List ℕ) → cells scheme string text lines .laid .lines ≤ length lines / 2
+unfolding cells
+lines-fit scheme string text lines = go (eqb scheme 0x0F) (hasRoom string (length text) (length lines)) refl
+  where
+    go : (a b : Bool) → hasRoom string (length text) (length lines) ≡ b
+        → unless a (refusedLayout 40 text lines) (unless b (refusedLayout 41 text lines) (laidOut (stringText string) text lines)) .laid .lines ≤ length lines / 2
+    go false b h = omega arith
+    go true false h = omega arith
+    go true true h = leb-true _ _ (both (leb (length (stringText string)) (length text)) (leb (length (linesOf (stringText string))) (length lines / 2)) h .1)

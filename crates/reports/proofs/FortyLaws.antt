@@ -19,7 +19,8 @@ use Rattle.telephone.specs.declared.receive.Received.{Received}
 use Rattle.telephone.specs.declared.calls.Called.{Called}
 use Rattle.reports.specs.Words.{invokeWord, resultWord, errorWord, rejectWord, rejectNone, linkedWord, operationWord, codeWord, parameterWord, schemeWord, stringWord, tailWord, causeWord, replyWord, messageWord, valueWord, doneLine, refusedLine, verdictLine, doneOrRefused}
 use Rattle.showing.specs.Views.{standing}
-use Rattle.reports.specs.Shown.{kindLines, numberLines, parameterLine, textLines, causeLine, writtenLine, receivedText, calledText}
+use Rattle.reports.specs.Shown.{kindLines, numberLines, parameterLine, cellLines, textLines, causeLine, writtenLine, receivedText, calledText}
+use Rattle.reports.proofs.FeltLaws.{cells-forty}
 use Rattle.reports.proofs.VerdictLaws.{refused-none, verdict-none}
 
 -- by cases on a test
@@ -109,9 +110,10 @@ parameter-forty m v = octets-there (ltb (v .parameter .start) (v .parameter .end
 text-forty : (m : List ℕ) (t : TextView) → forty (textLines m t) ≡ true
 unfolding textLines plain
 text-forty m t =
-    forty-append _ _ (forty-append _ _
+    forty-append _ _ (forty-append _ _ (forty-append _ _
     (octets-there (t .«is_there») schemeWord (t .scheme ∷ []) refl (omega arith))
     (octets-there (t .«is_there») stringWord (standing m (t .string)) refl (omega arith)))
+    (forty-when (t .«is_there») (cellLines (t .scheme) (standing m (t .string))) (cells-forty (t .scheme) (standing m (t .string)))))
     (octets-there (t .«is_there») tailWord (standing m (t .tail)) refl (omega arith))
 
 cause-forty : (m : List ℕ) (c : CauseView) → forty (causeLine m c) ≡ true

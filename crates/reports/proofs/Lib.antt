@@ -1,3 +1,4 @@
 pub mod FortyLaws
 mod VerdictLaws
 mod RowLaws
+mod FeltLaws

@@ -1,10 +1,12 @@
 -- What is printed of a received message and of a call, line by line.
-use Prim.Native.Nat.{ℕ}
+use Prim.Native.Nat.{ℕ, _*_}
 use mathlib.Core.List.{List, [], _∷_, _++_}
 use mathlib.Core.Bool.{Bool, not, _&&_}
-use lib.ListN.{take}
+use lib.ListN.{take, replicate}
 use lib.Dec.{eqb, ltb}
 use Rattle.printing.specs.Lines.{when, octetsLine, numberLine, idLine, problemLine}
+use Rattle.printing.specs.Utf8.{textRows}
+use Rattle.cells.specs.Cells.{Layout, cells}
 use Rattle.components.specs.Component.{invokeTag, resultTag, errorTag, rejectTag}
 use Rattle.showing.specs.Views.{standing}
 use Rattle.showing.specs.declared.ComponentView.{ComponentView}
@@ -12,7 +14,7 @@ use Rattle.showing.specs.declared.TextView.{TextView}
 use Rattle.showing.specs.declared.CauseView.{CauseView}
 use Rattle.telephone.specs.declared.receive.Received.{Received}
 use Rattle.telephone.specs.declared.calls.Called.{Called}
-use Rattle.reports.specs.Words.{invokeWord, resultWord, errorWord, rejectWord, rejectNone, linkedWord, operationWord, codeWord, parameterWord, schemeWord, stringWord, tailWord, causeWord, replyWord, messageWord, valueWord, verdictLine, doneOrRefused}
+use Rattle.reports.specs.Words.{invokeWord, resultWord, errorWord, rejectWord, rejectNone, linkedWord, operationWord, codeWord, parameterWord, schemeWord, stringWord, linesWord, tailWord, causeWord, replyWord, messageWord, valueWord, verdictLine, doneOrRefused}
 
 -- "`invoke 5`, `result 1`, `error 1`, `reject 5` or `reject none`"
 unfoldable pub kindLines : ComponentView → List ℕ
@@ -35,11 +37,20 @@ numberLines v =
 unfoldable pub parameterLine : List ℕ → ComponentView → List ℕ
 parameterLine m v = when (ltb (v .parameter .start) (v .parameter .end)) (octetsLine parameterWord (standing m (v .parameter)))
 
--- "`scheme 0F`, `string 41`, `tail 04 01 02`"
+-- "`lines N` follows it, then the N lines of text, each alone on a line of its own"; "With another scheme nothing is printed for it"
+unfoldable pub laidLines : Layout → List ℕ
+laidLines o = when (eqb (o .laid .code) 0) (numberLine linesWord (o .laid .lines) ++ textRows (o .text) (take (2 * o .laid .lines) (o .lines)))
+
+-- the text of a string, in the room that is enough for every text that is shown
+unfoldable pub cellLines : ℕ → List ℕ → List ℕ
+cellLines scheme string = laidLines (cells scheme string (replicate 182 0) (replicate 18 0))
+
+-- "`scheme 0F`, `string 41`, `tail 04 01 02`"; "Wherever `string` is printed and the scheme is 0F", its lines
 unfoldable pub textLines : List ℕ → TextView → List ℕ
 textLines m t =
     when (t .«is_there») (octetsLine schemeWord (t .scheme ∷ []))
     ++ when (t .«is_there») (octetsLine stringWord (standing m (t .string)))
+    ++ when (t .«is_there») (cellLines (t .scheme) (standing m (t .string)))
     ++ when (t .«is_there») (octetsLine tailWord (standing m (t .tail)))
 
 -- "`cause E0 9D`"

@@ -44,6 +44,10 @@ schemeWord = 115 ∷ 99 ∷ 104 ∷ 101 ∷ 109 ∷ 101 ∷ []
 abbrev pub stringWord : List ℕ
 stringWord = 115 ∷ 116 ∷ 114 ∷ 105 ∷ 110 ∷ 103 ∷ []
 
+-- `lines`
+abbrev pub linesWord : List ℕ
+linesWord = 108 ∷ 105 ∷ 110 ∷ 101 ∷ 115 ∷ []
+
 -- `tail`
 abbrev pub tailWord : List ℕ
 tailWord = 116 ∷ 97 ∷ 105 ∷ 108 ∷ []

@@ -1,4 +1,5 @@
 // What is printed of a received message and of a call.
+use crate::felt::cell_lines;
 use crate::verdicts::done_or_refused;
 use crate::verdicts::verdict_line;
 use printing::lines::id_line;
@@ -94,8 +95,8 @@ fn parameter_line(page: &mut [u8], at: usize, message: &[u8], received: Received
 }
 
 fn text_lines(page: &mut [u8], at: usize, message: &[u8], view: TextView) -> usize
-    requires { ⌜ (length (now message) ≤ 4096) × (at + 33000 ≤ length (now page)) ⌝ }
-    ensures { λ r. ⌜ WroteWithin 33000 (now (page .entry)) at (textLines (now (message .entry)) view) (now (page .exit)) r ⌝ }
+    requires { ⌜ (length (now message) ≤ 4096) × (at + 34000 ≤ length (now page)) ⌝ }
+    ensures { λ r. ⌜ WroteWithin 34000 (now (page .entry)) at (textLines (now (message .entry)) view) (now (page .exit)) r ⌝ }
 {
     let there = view.is_there;
     let scheme = [view.scheme];
@@ -103,7 +104,8 @@ fn text_lines(page: &mut [u8], at: usize, message: &[u8], view: TextView) -> usi
     let tail = view.tail;
     let a = octets_line(page, at, there, b"scheme", &scheme);
     let b = octets_line(page, a, there, b"string", part_of(message, string));
-    octets_line(page, b, there, b"tail", part_of(message, tail))
+    let c = cell_lines(page, b, there, view.scheme, part_of(message, string));
+    octets_line(page, c, there, b"tail", part_of(message, tail))
 }
 
 fn cause_line(page: &mut [u8], at: usize, message: &[u8], view: CauseView) -> usize

@@ -1,0 +1,55 @@
+-- The lines of a text: whether they are printed, and how wide they are.
+use Prim.Native.Nat.{ℕ, _+_, _*_, _≤_}
+use mathlib.Core.Path.{_≡_, refl}
+use mathlib.Core.List.{List, [], _∷_, _++_}
+use mathlib.Core.Bool.{Bool, true, false}
+use native.Mathlib.Omega.{arith}
+use lib.ListN.{length, take, replicate}
+use lib.Dec.{eqb}
+use borrow.Author.Tests.{eq-eqb, ne-eqb, eqb-true, eqb-false}
+use Rattle.printing.specs.Lines.{when, numberLine}
+use Rattle.printing.specs.Forty.{fortyFrom, forty, plain}
+use Rattle.printing.specs.Utf8.{textRows, ShortRows}
+use Rattle.printing.proofs.FortyLaws.{forty-append, forty-when, number-forty}
+use Rattle.printing.proofs.TextFortyLaws.{rows-forty}
+use Rattle.cells.specs.Characters.{stringText}
+use Rattle.cells.specs.Lines.{linesOf, lineOctets}
+use Rattle.cells.specs.Cells.{Layout, cells}
+use Rattle.cells.specs.Broken.{FortyCells}
+use Rattle.cells.specs.declared.rows.Line.{Line}
+use Rattle.cells.proofs.BrokenLaws.{at-most-forty}
+use Rattle.cells.proofs.RoomLaws.{read-in-c}
+use Rattle.reports.specs.Words.{linesWord}
+use Rattle.reports.specs.Shown.{laidLines, cellLines}
+
+module _ (o : Layout) where
+  pub not-laid : (o .laid .code ≡ 0 → ⊥) → laidLines o ≡ []
+  unfolding laidLines
+  not-laid h = rw (ne-eqb (o .laid .code) 0 h) refl
+
+  pub laid : o .laid .code ≡ 0 → laidLines o ≡ numberLine linesWord (o .laid .lines) ++ textRows (o .text) (take (2 * o .laid .lines) (o .lines))
+  unfolding laidLines
+  laid e = rw (eq-eqb (o .laid .code) 0 e) refl
+
+short-rows : (ls : List Line) → FortyCells ls → ShortRows (lineOctets ls)
+unfolding lineOctets
+short-rows [] h = tt
+short-rows (l ∷ ls) h = (h .0, short-rows ls (h .1 .1))
+
+-- each line has at most forty characters
+pub cells-forty : (scheme : ℕ) (string : List ℕ) → forty (cellLines scheme string) ≡ true
+unfolding cellLines forty fortyFrom plain
+cells-forty scheme string = go (eqb (o .laid .code) 0) refl
+  where
+    o : Layout
+    o = cells scheme string (replicate 182 0) (replicate 18 0)
+
+    go : (b : Bool) → eqb (o .laid .code) 0 ≡ b → forty (laidLines o) ≡ true
+    go false e = rw (not-laid o (eqb-false (o .laid .code) 0 e)) refl
+    go true e =
+        let z = eqb-true (o .laid .code) 0 e in
+        let r = read-in-c scheme string (replicate 182 0) (replicate 18 0) z in
+        rw (laid o z, r .1)
+        (forty-append (numberLine linesWord (o .laid .lines)) (textRows (o .text) (lineOctets (linesOf (stringText string))))
+        (number-forty linesWord (o .laid .lines) refl (omega arith))
+        (rows-forty (o .text) (lineOctets (linesOf (stringText string))) (short-rows (linesOf (stringText string)) (at-most-forty (stringText string)))))
