@@ -23,6 +23,10 @@ static const uint8_t ended[] = {0x8B, 0x2A, 0x08, 0x02, 0xE0, 0x9D, 0x1C, 0x05,
                                 0xA2, 0x03, 0x02, 0x01, 0x01};
 static const uint8_t rejected[] = {0x8B, 0x3A, 0x02, 0xA5, 0x00};
 
+/* 160 octets of a string, and the room for what it becomes. */
+static uint8_t string[160], lines[SMR_LINE_OCTETS];
+static uint16_t characters[SMR_CHARACTERS];
+
 static void nothing(void) {}
 static void receive(void) { smr_receive(table, SMR_TABLE, given, given_length, buffer, SMR_REPLY); }
 static void begin(void) { smr_begin(table, SMR_TABLE, 59, 1, text, sizeof text, buffer, sizeof buffer); }
@@ -30,6 +34,7 @@ static void invoke(void) { smr_invoke(table, SMR_TABLE, 0, 0, 59, 1, text, sizeo
 static void result(void) { smr_result(table, SMR_TABLE, 0, 0, 5, text, sizeof text, buffer, sizeof buffer); }
 static void error(void) { smr_error(table, SMR_TABLE, 0, 0, 5, 1, guidance, sizeof guidance, buffer, sizeof buffer); }
 static void release(void) { smr_release(table, SMR_TABLE, 0, 0, buffer, sizeof buffer); }
+static void cells(void) { smr_cells(0x0F, string, sizeof string, characters, SMR_CHARACTERS, lines, sizeof lines); }
 
 /* The octets that a call takes of a fresh stack. */
 static size_t depth(void (*call)(void), const char *image)
@@ -50,6 +55,18 @@ static size_t depth(void (*call)(void), const char *image)
     swapcontext(&here, &there);
     while (clean < STACK && stack[clean] == PAINT) clean++;
     return STACK - clean;
+}
+
+/* The deepest of 256 strings, each of one octet over and over: all septets are among them. */
+static size_t depth_of_cells(void)
+{
+    size_t deepest = 0;
+    for (int octet = 0; octet < 256; octet++) {
+        memset(string, octet, sizeof string);
+        size_t n = depth(cells, "");
+        deepest = n > deepest ? n : deepest;
+    }
+    return deepest;
 }
 
 static void print(const char *name, size_t octets)
@@ -86,5 +103,6 @@ int main(void)
     print("smr_result", depth(result, peer) - none);
     print("smr_error", depth(error, peer) - none);
     print("smr_release", depth(release, peer) - none);
+    print("smr_cells", depth_of_cells() - none);
     return 0;
 }

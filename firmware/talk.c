@@ -1,4 +1,5 @@
 /* Conversations: the table goes on from call to call, as in the modem. */
+#include "chance.h"
 #include "check.h"
 #include "lent.h"
 #include "smrcholet.h"
@@ -9,16 +10,6 @@
 static const uint8_t menu[] = {0x0B, 0x3B, 0x1C, 0x10, 0xA1, 0x0E, 0x02, 0x01, 0x05, 0x02,
                                0x01, 0x3C, 0x30, 0x06, 0x04, 0x01, 0x0F, 0x04, 0x01, 0x41};
 static const uint8_t text[] = {0x30, 0x06, 0x04, 0x01, 0x0F, 0x04, 0x01, 0x41};
-
-static uint64_t seed = 4080;
-
-static uint32_t random_below(uint32_t n)
-{
-    seed ^= seed << 13;
-    seed ^= seed >> 7;
-    seed ^= seed << 17;
-    return (uint32_t)(seed >> 16) % n;
-}
 
 /* A menu comes, comes again, and is answered. */
 static void test_menu(void)

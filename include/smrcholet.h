@@ -2,8 +2,11 @@
  *
  * Every call is safe with any octets and any lengths; NULL is allowed where the
  * length is 0. There is no heap and no state but the table that you lend: 70
- * octets, all zero at the start, handed to each call and never shared by two
- * calls at once. No two of the slices of one call may overlap.
+ * octets, all zero at the start, handed to each call but smr_cells and never
+ * shared by two calls at once. No two of the slices of one call may overlap.
+ *
+ * smr_cells is in libcells.a, the other calls are in libtelephone.a; neither
+ * archive needs the other.
  */
 #ifndef SMRCHOLET_H
 #define SMRCHOLET_H
@@ -21,6 +24,9 @@ extern "C" {
 #define SMR_REPLY 12
 /* No message that is sent is longer. */
 #define SMR_MESSAGE 255
+/* Room for every text that smr_receive shows, and for its lines. */
+#define SMR_CHARACTERS 182
+#define SMR_LINE_OCTETS 18
 
 /* Verdicts on a received message. Its component is shown with 0, unless the
  * Facility value was empty; with 4 if the Reject was sound; with 5 if a sound
@@ -45,6 +51,8 @@ extern "C" {
 #define SMR_LONG_MESSAGE 26   /* the message would pass 255 octets */
 #define SMR_SHORT_BUFFER 27   /* the buffer is too short */
 #define SMR_DAMAGED 28        /* the table is damaged, or not 70 octets */
+#define SMR_OTHER_SCHEME 40   /* cells: the coding scheme is not 0F */
+#define SMR_SHORT_TEXT 41     /* cells: text or lines too short */
 
 /* Kinds of component: their outer tags. */
 #define SMR_NOTHING 0x00
@@ -142,7 +150,7 @@ typedef struct {
 typedef struct {
     bool is_there;
     uint8_t scheme;  /* the coding scheme */
-    smr_span string; /* 1 to 160 octets, coded by the scheme */
+    smr_span string; /* 1 to 160 octets, coded by the scheme; 0F: smr_cells */
     smr_span tail;   /* unread elements of a later edition, or empty */
 } smr_text;
 
@@ -165,6 +173,12 @@ typedef struct {
     uint8_t value;  /* begin: the value of the new transaction */
     size_t written; /* octets of the message to send; 0 if refused */
 } smr_called;
+
+typedef struct {
+    uint8_t code;      /* 0, or the refusal, 40 or 41 */
+    size_t characters; /* written to text */
+    size_t lines;      /* written to lines, two octets each */
+} smr_laid;
 
 /* A message came in. The reply buffer needs SMR_REPLY octets. */
 smr_received smr_receive(uint8_t *table, size_t table_length,
@@ -213,6 +227,22 @@ smr_called smr_error(uint8_t *table, size_t table_length,
 smr_called smr_release(uint8_t *table, size_t table_length,
                        uint8_t flag, uint8_t value,
                        uint8_t *buffer, size_t buffer_length);
+
+/* A USSD string as text on forty cells. A line is two octets: its cells, 0 to
+ * 40, and 1 if a space was dropped behind it, else 0.
+ *
+ * text gets the characters as Unicode numbers, the highest is 20AC: those of GSM
+ * 03.38's default alphabet and its extension table, dropped spaces included.
+ * text_length counts characters, not octets. SMR_CHARACTERS and SMR_LINE_OCTETS
+ * suffice for every text that smr_receive shows; 41 never comes then.
+ *
+ * The first line starts at text[0], the next one further on by the sum of both
+ * octets; the sums of all lines add up to `characters`. There is at least one
+ * line, and a line may have no cells. Line feed (0A), page break (0C) and
+ * carriage return (0D) take a cell like any character and end no line. */
+smr_laid smr_cells(uint8_t scheme, const uint8_t *string, size_t string_length,
+                   uint16_t *text, size_t text_length,
+                   uint8_t *lines, size_t lines_length);
 
 #ifdef __cplusplus
 }

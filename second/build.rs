@@ -1,10 +1,12 @@
-//! Links the proved archive.
+//! Links the proved archives.
 
 fn main() {
     let here = std::env::var("CARGO_MANIFEST_DIR").expect("cargo sets it");
     let folder = format!("{here}/../target/staticlib");
     println!("cargo:rustc-link-search=native={folder}");
-    println!("cargo:rustc-link-lib=static=telephone");
-    println!("cargo:rerun-if-changed={folder}/libtelephone.a");
+    for name in ["telephone", "cells"] {
+        println!("cargo:rustc-link-lib=static={name}");
+        println!("cargo:rerun-if-changed={folder}/lib{name}.a");
+    }
     println!("cargo:rerun-if-changed=build.rs");
 }

@@ -4,7 +4,9 @@
 //! makes the lines of the answer.
 
 use crate::call::{self, Called};
+use crate::cells;
 use crate::component::{Answer, Component};
+use crate::parameter::Text;
 use crate::receive::{self, Received, Shown};
 use crate::table;
 use std::collections::VecDeque;
@@ -307,9 +309,36 @@ fn of_shown(shown: &Shown) -> Vec<String> {
     if let Some(text) = &shown.text {
         lines.extend(octets("scheme", &[text.scheme]));
         lines.extend(octets("string", &text.string.octets));
+        lines.extend(of_text(text));
         lines.extend(octets("tail", &text.tail.octets));
     }
     lines
+}
+
+/// "Wherever `string` is printed and the scheme is 0F, `lines N` follows it, then the
+/// N lines of text"; "With another scheme nothing is printed for it."
+fn of_text(text: &Text) -> Vec<String> {
+    let string = &text.string.octets;
+    let laid = cells::cells(text.scheme, string, cells::CHARACTERS, cells::LINE_OCTETS);
+    match laid.code {
+        0 => {
+            let count = format!("lines {}", laid.line_count());
+            let rows = laid.rows().into_iter().map(printed);
+            [count].into_iter().chain(rows).collect()
+        }
+        40 => Vec::new(),
+        _ => unreachable!("room enough for every text shown"),
+    }
+}
+
+/// A line of text: "0A, 0C and 0D are printed as 240A, 240C and 240D, one character
+/// each, so that a cell never breaks a line".
+fn printed(row: &[u16]) -> String {
+    let pictured = row.iter().map(|character| match character {
+        0x0A | 0x0C | 0x0D => 0x2400 + character,
+        other => *other,
+    });
+    String::from_utf16(&pictured.collect::<Vec<u16>>()).expect("no surrogates")
 }
 
 /// The lines before the parameter.

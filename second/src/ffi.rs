@@ -1,4 +1,4 @@
-//! The proved archive, by its C interface (include/smrcholet.h).
+//! The proved archives, by their C interface (include/smrcholet.h).
 
 /// The header's bool, read as an octet: one other than 0 or 1 is then seen.
 pub type Bool = u8;
@@ -58,6 +58,14 @@ pub struct Called {
     pub code: u8,
     pub value: u8,
     pub written: usize,
+}
+
+#[repr(C)]
+#[derive(Clone, Copy, Debug, Default, PartialEq, Eq)]
+pub struct Laid {
+    pub code: u8,
+    pub characters: usize,
+    pub lines: usize,
 }
 
 extern "C" {
@@ -127,6 +135,16 @@ extern "C" {
         buffer: *mut u8,
         buffer_length: usize,
     ) -> Called;
+
+    fn smr_cells(
+        scheme: u8,
+        string: *const u8,
+        string_length: usize,
+        text: *mut u16,
+        text_length: usize,
+        lines: *mut u8,
+        lines_length: usize,
+    ) -> Laid;
 }
 
 pub fn receive(table: &mut [u8], message: &[u8], reply: &mut [u8]) -> Received {
@@ -251,4 +269,30 @@ pub fn release(table: &mut [u8], (flag, value): (u8, u8), buffer: &mut [u8]) -> 
             buffer.len(),
         )
     }
+}
+
+pub fn cells(scheme: u8, string: &[u8], text: &mut [u16], lines: &mut [u8]) -> Laid {
+    // SAFETY: as in `receive`.
+    unsafe {
+        smr_cells(
+            scheme,
+            string.as_ptr(),
+            string.len(),
+            text.as_mut_ptr(),
+            text.len(),
+            lines.as_mut_ptr(),
+            lines.len(),
+        )
+    }
+}
+
+/// A string and a text of length 0, and lines if they are empty too, lent as NULL.
+pub fn cells_of_null(scheme: u8, lines: &mut [u8]) -> Laid {
+    let (string, text) = (std::ptr::null(), std::ptr::null_mut());
+    let octets = match lines {
+        [] => std::ptr::null_mut(),
+        _ => lines.as_mut_ptr(),
+    };
+    // SAFETY: as in `receive`; "NULL is allowed where the length is 0".
+    unsafe { smr_cells(scheme, string, 0, text, 0, octets, lines.len()) }
 }

@@ -2,10 +2,12 @@
 //! written from the papers alone.
 //!
 //! A whole message is parsed into owned values; a call returns an owned outcome
-//! and changes nothing that it was lent. `ffi` calls the proved archive.
+//! and changes nothing that it was lent. `ffi` calls the proved archives.
 
+pub mod alphabet;
 pub mod bench;
 pub mod call;
+pub mod cells;
 pub mod component;
 pub mod element;
 pub mod errors;
@@ -15,6 +17,7 @@ pub mod operation;
 pub mod parameter;
 pub mod part;
 pub mod receive;
+pub mod septets;
 pub mod step6;
 pub mod table;
 pub mod view;

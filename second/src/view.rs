@@ -1,6 +1,7 @@
 //! Our outcomes in the form of the C structs: parts as places, 0 for none.
 
 use crate::call::Called;
+use crate::cells::Laid;
 use crate::component::{Answer, Component};
 use crate::ffi;
 use crate::parameter::Text;
@@ -106,6 +107,16 @@ impl From<&Called> for ffi::Called {
             code: called.code,
             value: called.value,
             written: called.message.len(),
+        }
+    }
+}
+
+impl From<&Laid> for ffi::Laid {
+    fn from(laid: &Laid) -> ffi::Laid {
+        ffi::Laid {
+            code: laid.code,
+            characters: laid.text.len(),
+            lines: laid.line_count(),
         }
     }
 }

@@ -10,3 +10,4 @@ mod PutLaws
 pub mod LayLaws
 pub mod CellsLaws
 pub mod RoomLaws
+pub mod Worked

@@ -7,3 +7,4 @@ pub mod Cells
 pub mod Packing
 pub mod Broken
 pub mod Room
+pub mod Worked

@@ -5,6 +5,8 @@
 
 #[path = "../compare/call.rs"]
 mod call;
+#[path = "../compare/cells/notation.rs"]
+mod cells_notation;
 #[path = "../compare/chance.rs"]
 mod chance;
 #[path = "../compare/codes.rs"]
@@ -25,14 +27,18 @@ mod rare;
 mod report;
 #[path = "../compare/tables.rs"]
 mod tables;
+#[path = "../compare/texts.rs"]
+mod texts;
 #[path = "../compare/wishes.rs"]
 mod wishes;
 
+mod cells;
 mod conversations;
 mod each_code;
 mod grammar;
 mod occurrences;
 mod proved;
+mod reading;
 mod samples;
 mod sizes;
 mod talk;

@@ -1,6 +1,7 @@
 //! What has been printed over a run, and what must be.
 
 use crate::errors;
+use crate::reading::{lines, Line};
 use std::collections::BTreeMap;
 
 #[derive(Default)]
@@ -45,6 +46,9 @@ const NAMED: &[&str] = &[
     "parameter",
     "scheme",
     "string",
+    "lines 1",
+    "lines",
+    "text",
     "tail",
     "tail alone",
     "cause",
@@ -62,12 +66,12 @@ const NAMED: &[&str] = &[
 impl Occurrences {
     /// What was printed, and what the errors met.
     pub fn add(&mut self, output: &[u8], met: &[(&str, u8)]) {
-        let output = std::str::from_utf8(output).expect("plain text");
-        for line in output.lines() {
+        for line in lines(output) {
             match line {
                 // The end of an answer.
-                "" => self.answers += 1,
-                _ => self.count(kind(line)),
+                Line::Own(b"") => self.answers += 1,
+                Line::Own(line) => self.count(kind(line)),
+                Line::OfText(_) => self.count("text".to_string()),
             }
         }
         for (name, number) in met {
@@ -105,12 +109,13 @@ fn of_errors() -> impl Iterator<Item = String> {
     errors::MET.into_iter().flat_map(each)
 }
 
-fn kind(line: &str) -> String {
+fn kind(line: &[u8]) -> String {
+    let line = std::str::from_utf8(line).expect("plain text");
     let (first, rest) = line.split_once(' ').unwrap_or((line, ""));
     match (first, rest) {
         ("", _) => "going on".to_string(),
         ("verdict" | "refused" | "done", _) => line.to_string(),
-        ("reject", "none") | ("table", "set") => line.to_string(),
+        ("reject", "none") | ("table", "set") | ("lines", "1") => line.to_string(),
         ("tail" | "cause", "") => format!("{first} alone"),
         // Behind the line's number.
         ("line", _) => rest.split_once(' ').unwrap_or_default().1.to_string(),

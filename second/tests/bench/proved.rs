@@ -1,5 +1,6 @@
 //! The proved program on a whole input, and the comparison.
 
+use crate::reading::{first_answer, width};
 use crate::report::lines;
 use second::bench::{answers, Bench};
 use std::io::{self, Read, Write};
@@ -27,7 +28,7 @@ pub fn compare(input: &[u8]) -> Vec<u8> {
     }
     assert!(run.status.success(), "ended by {}", run.status);
     run.fed.expect("the whole input is read");
-    let mut widths = run.output.split(|o| *o == b'\n').map(<[u8]>::len);
+    let mut widths = run.output.split(|o| *o == b'\n').map(width);
     assert!(widths.all(|width| width <= WIDTH), "a line is too wide");
     run.output
 }
@@ -71,11 +72,15 @@ fn report(input: &[u8], output: &[u8]) {
         let answer = bench.answer(line);
         let Some(rest) = left.strip_prefix(answer.as_bytes()) else {
             println!("| they differ, line {}", before + 1);
-            lines("line", &readable(&line[..line.len().min(SHOWN)]));
-            let proved = first_answer(left);
-            lines("proved", &readable(proved));
-            lines("second", &answer);
-            if proved.trim_ascii_end() == answer.trim_end().as_bytes() {
+            lines(
+                "line",
+                &line[..line.len().min(SHOWN)].escape_ascii().to_string(),
+            );
+            let proved = readable(left);
+            let second = readable(answer.as_bytes());
+            lines("proved", &proved);
+            lines("second", &second);
+            if proved == second {
                 println!("| only the empty line behind differs");
             }
             return;
@@ -83,17 +88,12 @@ fn report(input: &[u8], output: &[u8]) {
         left = rest;
     }
     println!("| they differ behind the last line");
-    lines("proved", &readable(first_answer(left)));
+    lines("proved", &readable(left));
 }
 
-/// Up to the empty line, or all.
-fn first_answer(output: &[u8]) -> &[u8] {
-    let end = output.windows(2).position(|pair| pair == b"\n\n");
-    &output[..end.unwrap_or(output.len())]
-}
-
-fn readable(octets: &[u8]) -> String {
-    let lines = octets.split(|o| *o == b'\n');
+/// The first answer of these.
+fn readable(output: &[u8]) -> String {
+    let lines = first_answer(output).into_iter();
     let lines: Vec<String> = lines.map(|line| line.escape_ascii().to_string()).collect();
     lines.join("\n")
 }

@@ -11,6 +11,8 @@ operation 60
 parameter 30 06 04 01 0F 04 01 41
 scheme 0F
 string 41
+lines 1
+A
 tail
 
 ";
@@ -39,7 +41,82 @@ parameter 30 09 04 01 0F 04 01 41 04 01
  02
 scheme 0F
 string 41
+lines 1
+A
 tail 04 01 02
+
+"],
+    ),
+    // W1 with other strings: "hellohello", seven characters and a pad, forty-one spaces.
+    (
+        &[
+            "receive 0B3B1C18A11602010502013C300E04010F0409E8329BFD4697D9EC37",
+            "release 0 0",
+            "receive 0B3B1C16A11402010502013C300C04010F0407C16030180C061B",
+            "release 0 0",
+            "receive 0B3B1C33A13102010502013C302904010F0424\
+             20100804028140 20100804028140 20100804028140 20100804028140 20100804028140 20",
+        ],
+        &[
+            "\
+verdict 0 taken
+invoke 5
+operation 60
+parameter 30 0E 04 01 0F 04 09 E8 32 9B
+ FD 46 97 D9 EC 37
+scheme 0F
+string E8 32 9B FD 46 97 D9 EC 37
+lines 1
+hellohello
+tail
+
+",
+            "done 0\nmessage 8B 2A\n\n",
+            "\
+verdict 0 taken
+invoke 5
+operation 60
+parameter 30 0C 04 01 0F 04 07 C1 60 30
+ 18 0C 06 1B
+scheme 0F
+string C1 60 30 18 0C 06 1B
+lines 1
+AAAAAAA
+tail
+
+",
+            "done 0\nmessage 8B 2A\n\n",
+            "\
+verdict 0 taken
+invoke 5
+operation 60
+parameter 30 29 04 01 0F 04 24 20 10 08
+ 04 02 81 40 20 10 08 04 02 81 40 20 10
+ 08 04 02 81 40 20 10 08 04 02 81 40 20
+ 10 08 04 02 81 40 20
+scheme 0F
+string 20 10 08 04 02 81 40 20 10 08 04
+ 02 81 40 20 10 08 04 02 81 40 20 10 08
+ 04 02 81 40 20 10 08 04 02 81 40 20
+lines 2
+                                       \x20
+
+tail
+
+",
+        ],
+    ),
+    // W1 with another scheme.
+    (
+        &["receive 0B3B1C10A10E02010502013C3006040144040141"],
+        &["\
+verdict 0 taken
+invoke 5
+operation 60
+parameter 30 06 04 01 44 04 01 41
+scheme 44
+string 41
+tail
 
 "],
     ),
@@ -262,6 +339,8 @@ operation 59
 parameter 30 06 04 01 0F 04 01 41
 scheme 0F
 string 41
+lines 1
+A
 tail
 cause E0 9D
 

@@ -1,6 +1,7 @@
 //! A call on the archive and on the second program, and the comparison.
 
 pub use crate::call::{Call, Named};
+use crate::lent::Lent;
 use crate::notation::hex;
 use crate::report::lines;
 use second::ffi;
@@ -42,35 +43,8 @@ static PATTERN: [u8; 300] = {
     octets
 };
 
-/// Octets lent to the archive, with guards on both sides.
-struct Lent {
-    area: Vec<u8>,
-}
-
-const GUARD: [u8; 8] = [0xD3; 8];
-
-impl Lent {
-    fn new(octets: &[u8]) -> Lent {
-        Lent {
-            area: [&GUARD, octets, &GUARD].concat(),
-        }
-    }
-
-    fn octets(&mut self) -> &mut [u8] {
-        let end = self.area.len() - GUARD.len();
-        &mut self.area[GUARD.len()..end]
-    }
-
-    /// The octets as the call left them.
-    fn back(mut self) -> Vec<u8> {
-        let end = self.area.len() - GUARD.len();
-        let kept = self.area.starts_with(&GUARD) && self.area.ends_with(&GUARD);
-        assert!(kept, "octets outside the slice");
-        self.area.truncate(end);
-        self.area.drain(..GUARD.len());
-        self.area
-    }
-}
+/// What guards a slice that is lent.
+const GUARD: u8 = 0xD3;
 
 /// The call on both, from this table and a buffer of this length; they agree.
 pub fn compare(table: &[u8], call: &Call, room: usize) -> Facts {
@@ -116,9 +90,9 @@ fn lend(
     buffer: &[u8],
     call: impl FnOnce(&mut [u8], &mut [u8]) -> (ffi::Received, u8),
 ) -> Facts {
-    let mut table = Lent::new(table);
-    let mut buffer = Lent::new(buffer);
-    let (received, value) = call(table.octets(), buffer.octets());
+    let mut table = Lent::new(table, GUARD);
+    let mut buffer = Lent::new(buffer, GUARD);
+    let (received, value) = call(table.slice(), buffer.slice());
     Facts {
         received,
         value,

@@ -1,12 +1,13 @@
-//! The proved archive and the second program, compared call by call.
+//! The proved archives and the second program, compared call by call.
 //!
-//! Each module is one idea: `both` runs a call on the two and compares them, the
-//! others bring the calls.
+//! Each module is one idea: `both` runs a call on the two and compares them, `cells`
+//! does so for text on forty cells, the others bring the calls.
 
 mod both;
 mod call;
 mod calls;
 mod cases;
+mod cells;
 mod chance;
 mod changes;
 mod codes;
@@ -16,6 +17,7 @@ mod errors;
 mod extent;
 mod images;
 mod later;
+mod lent;
 mod messages;
 mod notation;
 mod parameters;
@@ -26,4 +28,5 @@ mod small;
 mod tables;
 mod talks;
 mod tally;
+mod texts;
 mod wishes;

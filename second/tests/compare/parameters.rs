@@ -84,13 +84,21 @@ pub fn ussd(c: &mut Chance) -> Vec<u8> {
         0 => c.pick(&[0, 161, 162]),
         _ => string_length(c),
     };
-    let scheme_length = usize::from(!c.one_in(40));
-    let scheme = c.octets(scheme_length);
+    let scheme = scheme(c);
     let string = c.octets(length);
     let mut contents = element(c, 0x04, &scheme);
     contents.extend(element(c, 0x04, &string));
     contents.extend(tail(c));
     element(c, 0x30, &contents)
+}
+
+/// The one whose texts are laid out, or any; now and then none.
+fn scheme(c: &mut Chance) -> Vec<u8> {
+    match c.below(40) {
+        0 => Vec::new(),
+        1..=19 => vec![0x0F],
+        _ => c.octets(1),
+    }
 }
 
 pub fn ss_for_bs(c: &mut Chance) -> Vec<u8> {

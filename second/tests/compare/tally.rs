@@ -28,7 +28,7 @@ const NAMED: [(&str, &[u8]); 8] = [
 impl Tally {
     /// The call, from this table, and what it gave.
     pub fn add(&mut self, table: &[u8], call: &Call, facts: &Facts) {
-        self.calls += 1;
+        self.one_more();
         match (facts.code(), call) {
             (code @ 20.., _) => self.count("refusal", code),
             (code, Call::Receive(message)) => {
@@ -58,7 +58,12 @@ impl Tally {
         }
     }
 
-    fn count(&mut self, name: &'static str, number: u8) {
+    /// A call, whatever it gave.
+    pub fn one_more(&mut self) {
+        self.calls += 1;
+    }
+
+    pub fn count(&mut self, name: &'static str, number: u8) {
         *self.counts.entry((name, number)).or_default() += 1;
     }
 
@@ -77,7 +82,12 @@ impl Tally {
 
     /// Every number that 01 names, often enough, and no other.
     pub fn check(&self) {
-        for (name, numbers) in NAMED.into_iter().chain(errors::MET) {
+        self.check_named(NAMED.into_iter().chain(errors::MET));
+    }
+
+    /// The same for these numbers.
+    pub fn check_named(&self, named: impl IntoIterator<Item = (&'static str, &'static [u8])>) {
+        for (name, numbers) in named {
             for number in numbers {
                 let count = self.counts.get(&(name, *number)).copied().unwrap_or(0);
                 if count * CALLS < self.calls {
@@ -87,7 +97,7 @@ impl Tally {
             }
             let others = self.counts.keys().filter(|(n, _)| *n == name);
             let known = others.clone().all(|(_, number)| numbers.contains(number));
-            assert!(known, "a number that 01 doesn't name");
+            assert!(known, "a number that isn't named");
         }
     }
 }
