@@ -47,6 +47,9 @@ static const step steps[] = {
     {"end, result", "smr_receive", SMR_RESULT, 0x8B, 0x2A, 0x44, 1, 0, ASKED},
     {"end, error", "smr_receive", SMR_ERROR, 0x8B, 0x2A, 0, 0, 0, ASKED},
     {"error", "smr_receive", SMR_ERROR, 0x8B, 0x3A, 0, 0, 0, ASKED},
+    /* a text is laid out on forty cells: one letter, and the longest */
+    {"text of 1", "smr_cells", SMR_NOTHING, 0, 0, 0x0F, 1, 0, FRESH},
+    {"text of 160", "smr_cells", SMR_NOTHING, 0, 0, 0x0F, 160, 0, FRESH},
 };
 
 /* Each call has a table of its own, made before the clock starts. */
@@ -122,6 +125,15 @@ static void result(int i)
     kept += (unsigned)smr_result(tables[i], SMR_TABLE, 1, 0, MENU, text, sizeof text, out, sizeof out).written;
 }
 
+static void cells(int i)
+{
+    static uint8_t lines[SMR_LINE_OCTETS];
+    static uint16_t characters[SMR_CHARACTERS];
+    (void)i;
+    smr_laid laid = smr_cells(0x0F, message, length, characters, SMR_CHARACTERS, lines, SMR_LINE_OCTETS);
+    kept += (unsigned)(laid.code + laid.characters + laid.lines);
+}
+
 #ifdef OSMO
 static struct ss_request request;
 
@@ -151,6 +163,7 @@ static void make_tables(const step *s)
 static bool is_done(const step *s, void (*call)(int))
 {
     make_tables(s);
+    if (call == cells) return smr_cells(s->scheme, message, length, NULL, 0, NULL, 0).code == SMR_SHORT_TEXT;
     if (call != receive) return call(0), tables[0][0] != s->entry[0];
     smr_received r = smr_receive(tables[0], SMR_TABLE, message, length, reply, sizeof reply);
     return r.code == (s->type == 0x2A ? SMR_RELEASED : SMR_TAKEN) && r.shown.kind == s->kind;
@@ -193,6 +206,7 @@ int main(int argc, char **argv)
     void (*ours)(int) = receive, (*its)(int) = NULL;
     const char *word = "-";
     if (s->kind != SMR_NOTHING) make_message(s);
+    else if (s->string > 0) ours = cells, length = s->string, memset(message, 0x41, length);
     else ours = strcmp(s->name, "begin") == 0 ? begin : result;
 #ifdef OSMO
     if (s->kind != SMR_NOTHING) {
