@@ -14,12 +14,14 @@ use Rattle.octets.proofs.TestLaws.{both}
 use Rattle.cells.specs.Septets.{septetAt, septetsIn, isPadded, septetsSent, unpacked}
 use Rattle.cells.specs.Alphabet.{escape, space, characterOf, extensionOf, madeBy}
 use Rattle.cells.specs.Characters.{characters, stringText}
-use Rattle.cells.specs.Lines.{brokenAt, extent, linesOf, lineOctets}
-use Rattle.cells.specs.Rows.{grown, isOver, lineOf, leftOf, endedBy, noRow, flow, putIf}
+use Rattle.cells.specs.Lines.{line, brokenAt, extent, linesOf, lineOctets}
+use Rattle.cells.specs.Rows.{grown, isOver, lineOf, leftOf, endedBy, noRow, flow, putIf, walked, textWith, linesWith, GiveRoom}
 use Rattle.cells.specs.declared.rows.Line.{Line}
 use Rattle.cells.specs.declared.rows.Row.{Row}
+use Rattle.cells.specs.declared.Walk.{Walk}
 use Rattle.cells.proofs.SeptetLaws.{length-septets, getD-septets}
 use Rattle.cells.proofs.LineLaws.{extent-least, flow-lines, flow-count, octets-twice}
+use Rattle.cells.proofs.RowLaws.{last-line}
 use Rattle.cells.proofs.PutLaws.{put-nil, put-put, length-put}
 
 -- a septet that ends the text, and one that is no escape
@@ -75,7 +77,7 @@ octets-append [] b = refl
 octets-append (l ∷ a) b = ap (λ s. l .cells ∷ l .dropped ∷ s) (octets-append a b)
 
 -- a row that goes on stays within forty, and what is kept of it within the row
-kept-within : (row : Row) (c : ℕ) → row .kept ≤ row .width → grown row c .kept ≤ grown row c .width
+pub kept-within : (row : Row) (c : ℕ) → row .kept ≤ row .width → grown row c .kept ≤ grown row c .width
 kept-within row c h = go (eqb c space)
   where
     go : (b : Bool) → cond b (suc (row .width)) (row .kept) ≤ suc (row .width)
@@ -170,8 +172,15 @@ module _ {string text₀ lines₀ : List ℕ} {writes : Bool} {count : ℕ} {tex
       let e = w .linesCount in
       omega arith
 
+  -- no more characters than septets
+  pub written-bound : written ≤ septetsIn (length string)
+  written-bound = let a = text-bound string in let e = w .textCount in omega arith
+
   -- one more septet
   module _ (more : at < count) where
+    pub held-there : at < septetsIn (length string)
+    held-there = let b = few-septets string in let e = w .counted in omega arith
+
     inside : at < length (unpacked string)
     inside = let b = length-septets string 0 (septetsSent string) in let e = w .counted in omega arith
 
@@ -233,9 +242,6 @@ module _ {string text₀ lines₀ : List ℕ} {writes : Bool} {count : ℕ} {tex
           let e = rw (gives escaped given) at (w .linesCount) in
           omega arith
 
-      written-bound : written + 1 ≤ septetsIn (length string)
-      written-bound = let a = text-bound string in let e = text-left in omega arith
-
       over-within : (over .width ≤ 41) × (over .kept ≤ over .width)
       over-within = let n = w .narrow in (omega arith, kept-within row code (w .spaced))
 
@@ -281,36 +287,6 @@ module _ {string text₀ lines₀ : List ℕ} {writes : Bool} {count : ℕ} {tex
               linesCount = lines-left;
             }
 
-  -- the same, by what the code got from its calls
-  module _ (more : at < count) (x : ℕ) (read : x ≡ septetAt string at) where
-    pub waits-there : not escaped && eqb x escape && ltb (at + 1) count ≡ true → Walked string text₀ lines₀ writes count text lines row (at + 1) true written ended
-    waits-there e = waited more (rw read at e)
-
-    module _ (given : not escaped && eqb x escape && ltb (at + 1) count ≡ false) where
-      told : waitsNow more escaped ≡ false
-      told = rw read at given
-
-      pub bound-there : written + 1 ≤ septetsIn (length string)
-      bound-there = written-bound more told
-
-      pub text-there : Room string text₀ lines₀ writes → writes ≡ true → written < length text
-      text-there = text-room more told
-
-      module _ (c : ℕ) (made : c ≡ madeBy escaped x) (g : Row) (grows : g ≡ grown row c) where
-        same : g ≡ over more told
-        same = grows ∙ ap (grown row) (made ∙ ap (madeBy escaped) read)
-
-        pub within-there : g .kept ≤ g .width
-        within-there = rw same (over-within more told .1)
-
-        module _ (room : Room string text₀ lines₀ writes) where
-          pub room-there : writes ≡ true → 2 * ended + length (lineOctets (endedBy g)) ≤ length lines
-          room-there = rw same (lines-room more told room)
-
-          pub turned : (y z : List ℕ) (left : Row) (e : ℕ) → y ≡ putIf writes text written (c ∷ []) → z ≡ putIf writes lines (2 * ended) (lineOctets (endedBy g))
-              → e ≡ ended + length (endedBy g) → left ≡ leftOf g → Walked string text₀ lines₀ writes count y z left (at + 1) false (written + 1) e
-          turned y z left e p q r t = rw (p, q, r, t, same, made, read) (goes-on more told room)
-
   -- at the end nothing is left, and the row makes the last line
   module _ (done : count ≤ at) where
     calm : (b : Bool) → (b ≡ true → at < count) → from string b at ≡ []
@@ -335,9 +311,31 @@ module _ {string text₀ lines₀ : List ℕ} {writes : Bool} {count : ℕ} {tex
     unfolding flow
     last-counted = rw none-left at (w .linesCount)
 
-    pub last-written : putIf writes lines (2 * ended) (lineOctets (lineOf row ∷ [])) ≡ putIf writes lines₀ 0 (lineOctets (linesOf (stringText string)))
+    pub last-written : putIf writes lines (2 * ended) (lineOctets (line (row .width) 0 ∷ [])) ≡ putIf writes lines₀ 0 (lineOctets (linesOf (stringText string)))
     unfolding flow
-    last-written = rw none-left at (w .linesWhole)
+    last-written = rw (last-line row (w .narrow)) (rw none-left at (w .linesWhole))
 
     pub last-room : Room string text₀ lines₀ writes → writes ≡ true → 2 * ended + 2 ≤ length lines
     last-room room y = let r = room y in let e = last-counted in let l = w .linesLength in omega arith
+
+-- a turn, by what the code got from its calls
+module _ {string text₀ lines₀ : List ℕ} {writes : Bool} {count : ℕ} {text lines : List ℕ} {at : ℕ} {escaped : Bool} (walk : Walk)
+    (w : Walked string text₀ lines₀ writes count text lines (walk .row) at escaped (walk .characters) (walk .ended)) (more : at < count)
+    (x : ℕ) (read : x ≡ septetAt string at) (v : Bool) (told : v ≡ (not escaped && eqb x escape && ltb (at + 1) count)) (room : Room string text₀ lines₀ writes) where
+  here : v ≡ waitsNow w more escaped
+  here = told ∙ rw read refl
+
+  pub room-there : v ≡ false → writes ≡ true → GiveRoom text lines walk (madeBy escaped x)
+  room-there e y = rw read (text-room w more (sym here ∙ e) room y, lines-room w more (sym here ∙ e) room y)
+
+  abbrev c : ℕ
+  c = madeBy escaped (septetAt string at)
+
+  pub turned : (y z : List ℕ) (u : Walk) → u ≡ cond v walk (walked walk (madeBy escaped x)) → y ≡ cond v text (textWith writes text walk (madeBy escaped x))
+      → z ≡ cond v lines (linesWith writes lines walk (madeBy escaped x)) → Walked string text₀ lines₀ writes count y z (u .row) (at + 1) v (u .characters) (u .ended)
+  turned y z u p q r = rw (p, q, r, read) (go v refl)
+    where
+      go : (b : Bool) → v ≡ b → Walked string text₀ lines₀ writes count (cond b text (textWith writes text walk c)) (cond b lines (linesWith writes lines walk c))
+          (cond b walk (walked walk c) .row) (at + 1) b (cond b walk (walked walk c) .characters) (cond b walk (walked walk c) .ended)
+      go true e = waited w more (sym here ∙ e)
+      go false e = goes-on w more (sym here ∙ e) room

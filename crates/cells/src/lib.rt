@@ -4,20 +4,22 @@ mod rows;
 mod septets;
 
 use crate::alphabet::made_by;
+use crate::rows::Line;
 use crate::rows::Row;
 use crate::rows::grow;
 use crate::rows::left_of;
 use crate::rows::line_of;
-use crate::septets::septet_at;
+use crate::septets::bits_at;
 use crate::septets::septets_sent;
 ghost use mathlib.Core.Path.{_≡_};
 ghost use mathlib.Core.List.{[], _∷_};
-ghost use mathlib.Core.Bool.{true};
+ghost use mathlib.Core.Bool.{true, false, cond};
 ghost use Prim.Native.Nat.{_+_, _*_, _≤_, _<_};
 ghost use lib.ListN.{length};
+ghost use Rattle.cells.specs.Alphabet.{madeBy};
 ghost use Rattle.cells.specs.Characters.{stringText};
 ghost use Rattle.cells.specs.Lines.{linesOf, lineOctets};
-ghost use Rattle.cells.specs.Rows.{endedBy, lineOf, putIf};
+ghost use Rattle.cells.specs.Rows.{endedBy, putIf, GiveRoom, GiveBounds, walked, textWith, linesWith};
 ghost use Rattle.cells.specs.Cells.{extentOf, refusedLaid, cells};
 
 // The refusal, or 0; how many characters and lines are written.
@@ -44,12 +46,11 @@ fn put_character(text: &mut [u16], at: usize, character: u16, writes: bool)
     }
 }
 
-// The line that a row makes, behind so many lines.
-fn put_line(lines: &mut [u8], count: usize, row: Row, writes: bool)
+// A line behind so many lines, if anything is written.
+fn put_line(lines: &mut [u8], count: usize, line: Line, writes: bool)
     requires { ⌜ (writes ≡ true → 2 * count + 2 ≤ length (now lines)) ⌝ }
-    ensures { λ _. ⌜ now (lines .exit) ≡ putIf writes (now (lines .entry)) (2 * count) (lineOctets (lineOf row ∷ [])) ⌝ }
+    ensures { λ _. ⌜ now (lines .exit) ≡ putIf writes (now (lines .entry)) (2 * count) (lineOctets (line ∷ [])) ⌝ }
 {
-    let line = line_of(row);
     if writes {
         lines[2 * count] = line.cells;
         lines[2 * count + 1] = line.dropped;
@@ -65,11 +66,58 @@ fn end_line(lines: &mut [u8], count: usize, row: Row, writes: bool) -> usize
     if row.width <= 40 {
         return count;
     }
-    put_line(lines, count, row, writes);
+    put_line(lines, count, line_of(row), writes);
     count + 1
 }
 
-// Goes through the characters of a string once: how many they are, and how many lines; and writes both, if it is to.
+// Where the walk is: the line that has begun, the characters and the lines before.
+pub struct Walk {
+    pub row: Row,
+    pub characters: usize,
+    pub ended: usize,
+}
+
+// One character more.
+fn give(text: &mut [u16], lines: &mut [u8], walk: Walk, code: u16, writes: bool) -> Walk
+    requires room { ⌜ (writes ≡ true → GiveRoom (now text) (now lines) walk code) ⌝ }
+    requires bounds { ⌜ GiveBounds walk ⌝ }
+    ensures walk { λ r. ⌜ r ≡ walked walk code ⌝ }
+    ensures text { λ _. ⌜ now (text .exit) ≡ textWith writes (now (text .entry)) walk code ⌝ }
+    ensures lines { λ _. ⌜ now (lines .exit) ≡ linesWith writes (now (lines .entry)) walk code ⌝ }
+{
+    put_character(text, walk.characters, code, writes);
+    let over = grow(walk.row, code);
+    let ended = end_line(lines, walk.ended, over, writes);
+    Walk {
+        row: left_of(over),
+        characters: walk.characters + 1,
+        ended: ended,
+    }
+}
+
+// One septet more: the character that it makes, unless it is an escape that waits for the next septet.
+fn turn(
+    text: &mut [u16],
+    lines: &mut [u8],
+    walk: Walk,
+    escaped: bool,
+    septet: u8,
+    waits: bool,
+    writes: bool,
+) -> Walk
+    requires room { ⌜ (waits ≡ false → writes ≡ true → GiveRoom (now text) (now lines) walk (madeBy escaped septet)) ⌝ }
+    requires bounds { ⌜ (septet < 128) × GiveBounds walk ⌝ }
+    ensures walk { λ r. ⌜ r ≡ cond waits walk (walked walk (madeBy escaped septet)) ⌝ }
+    ensures text { λ _. ⌜ now (text .exit) ≡ cond waits (now (text .entry)) (textWith writes (now (text .entry)) walk (madeBy escaped septet)) ⌝ }
+    ensures lines { λ _. ⌜ now (lines .exit) ≡ cond waits (now (lines .entry)) (linesWith writes (now (lines .entry)) walk (madeBy escaped septet)) ⌝ }
+{
+    if waits {
+        return walk;
+    }
+    give(text, lines, walk, made_by(escaped, septet), writes)
+}
+
+// Goes through the septets of a string once: how many characters they are, and how many lines; and writes both, if it is to.
 fn lay(string: &[u8], text: &mut [u16], lines: &mut [u8], writes: bool) -> Extent
     requires { ⌜ (writes ≡ true → (length (stringText (now string)) ≤ length (now text)) × (2 * length (linesOf (stringText (now string))) ≤ length (now lines))) ⌝ }
     ensures extent { λ r. ⌜ r ≡ extentOf (now (string .entry)) ⌝ }
@@ -77,30 +125,31 @@ fn lay(string: &[u8], text: &mut [u16], lines: &mut [u8], writes: bool) -> Exten
     ensures lines { λ _. ⌜ now (lines .exit) ≡ putIf writes (now (lines .entry)) 0 (lineOctets (linesOf (stringText (now (string .entry))))) ⌝ }
 {
     let count = septets_sent(string);
-    let mut row = Row { width: 0, kept: 0 };
+    let mut walk = Walk {
+        row: Row { width: 0, kept: 0 },
+        characters: 0,
+        ended: 0,
+    };
     let mut at = 0;
+    let mut carried = 0;
     let mut escaped = false;
-    let mut characters = 0;
-    let mut ended = 0;
     while at < count {
-        let septet = septet_at(string, at);
+        let bits = bits_at(string, at, carried);
+        let septet = (bits % 128) as u8;
+        carried = bits / 128;
         at += 1;
-        if !escaped & (septet == 0x1B) & (at < count) {
-            escaped = true;
-            continue;
-        }
-        let code = made_by(escaped, septet);
-        put_character(text, characters, code, writes);
-        let over = grow(row, code);
-        ended = end_line(lines, ended, over, writes);
-        row = left_of(over);
-        characters += 1;
-        escaped = false;
+        let waits = !escaped & (septet == 0x1B) & (at < count);
+        walk = turn(text, lines, walk, escaped, septet, waits, writes);
+        escaped = waits;
     }
-    put_line(lines, ended, row, writes);
+    let last = Line {
+        cells: walk.row.width,
+        dropped: 0,
+    };
+    put_line(lines, walk.ended, last, writes);
     Extent {
-        characters: characters,
-        lines: ended + 1,
+        characters: walk.characters,
+        lines: walk.ended + 1,
     }
 }
 

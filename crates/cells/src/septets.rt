@@ -1,38 +1,31 @@
 // The septets of a string.
 ghost use mathlib.Core.Path.{_≡_};
-ghost use Prim.Native.Nat.{_<_};
-ghost use lib.ListN.{length, getD};
-ghost use Rattle.cells.specs.Septets.{septetAt, septetsSent};
+ghost use Prim.Native.Nat.{_+_, _/_, _%_, _<_};
+ghost use lib.ListN.{length};
+ghost use Rattle.cells.specs.Septets.{septetAt, septetsIn, septetsSent};
+ghost use Rattle.cells.specs.Rows.{carriedTo};
 
-// An octet of the string; behind its end, 0.
-fn octet_or_0(string: &[u8], k: usize) -> u8
-    ensures { λ r. ⌜ r ≡ getD (now (string .entry)) k 0 ⌝ }
+// What is left of the octets that are read, and above it the next octet, where fewer than seven bits are left: septet i is the
+// lowest seven bits of it, and the rest is carried on to the next.
+pub fn bits_at(string: &[u8], i: usize, carried: u16) -> u16
+    requires { ⌜ (i < septetsIn (length (now string))) × (carried ≡ carriedTo (now string) i) ⌝ }
+    ensures septet { λ r. ⌜ r % 128 ≡ septetAt (now (string .entry)) i ⌝ }
+    ensures rest { λ r. ⌜ r / 128 ≡ carriedTo (now (string .entry)) (i + 1) ⌝ }
 {
-    if k < string.len() {
-        return string[k];
+    if i % 8 == 7 {
+        return carried;
     }
-    0
+    carried + ((string[i - i / 8] as u16) << (i % 8))
 }
 
-// Septet i begins at bit 7i. Eight septets fill seven octets, so what stands before it is whole sevens and at most 49 bits.
-pub fn septet_at(string: &[u8], i: usize) -> u8
-    ensures septet { λ r. ⌜ r ≡ septetAt (now (string .entry)) i ⌝ }
-    ensures small { λ r. ⌜ r < 128 ⌝ }
-{
-    let bits = i % 8 * 7;
-    let k = i / 8 * 7 + bits / 8;
-    let low = octet_or_0(string, k) as u16;
-    let high = octet_or_0(string, k + 1) as u16;
-    (((low + 256 * high) >> (bits % 8)) % 128) as u8
-}
-
-// How many septets are sent: a carriage return that fills the last octet is none. It is the upper seven bits of that octet.
+// How many septets are sent: a carriage return that fills the last octet is none. It is the upper seven bits of that octet. Eight
+// septets fill seven octets, so the string ends on an octet boundary where it holds whole eights.
 pub fn septets_sent(string: &[u8]) -> usize
     ensures { λ r. ⌜ r ≡ septetsSent (now (string .entry)) ⌝ }
 {
     let n = string.len();
     let held = n + n / 7;
-    if n % 7 != 0 {
+    if held % 8 != 0 {
         return held;
     }
     if n == 0 {

@@ -10,34 +10,30 @@ use Rattle.cells.proofs.put_line.Statement.{statement}
 use Rattle.cells.proofs.put_line.Tie as tie
 use Rattle.cells.proofs.put_line.Reads as reads
 use Rattle.cells.proofs.put_line.Lts as lts
-use Rattle.cells.proofs.rows.line_of.Reads as line-of-reads
-
-line-of-requires : tie.Need-line-of-requires
-line-of-requires c κs = search needs
 
 mul-lines : tie.Need-mul-lines
 mul-lines c =
-    let h = c .before .before .before .pre (c .if1 .taken) in
-    omega (arith, h, c .before .before .before .good)
+    let h = c .before .pre (c .if1 .taken) in
+    omega (arith, h, c .before .good)
 
 slice-write-lines : tie.Need-slice-write-lines
 slice-write-lines c =
-    let h = c .before .before .before .pre (c .if1 .taken) in
+    let h = c .before .pre (c .if1 .taken) in
     omega (arith, h)
 
 mul-lines-2 : tie.Need-mul-lines-2
 mul-lines-2 c =
-    let h = c .before .before .before .pre (c .if1 .taken) in
-    omega (arith, h, c .before .before .before .good)
+    let h = c .before .pre (c .if1 .taken) in
+    omega (arith, h, c .before .good)
 
 add-lines : tie.Need-add-lines
 add-lines c =
-    let h = c .before .before .before .pre (c .if1 .taken) in
-    omega (arith, h, c .before .before .before .good)
+    let h = c .before .pre (c .if1 .taken) in
+    omega (arith, h, c .before .good)
 
 slice-write-lines-2 : tie.Need-slice-write-lines-2
 slice-write-lines-2 c =
-    let h = c .before .before .before .pre (c .if1 .taken) in
+    let h = c .before .pre (c .if1 .taken) in
     simp length-set (omega (arith, h))
 
 same-length : tie.Need-same-length
@@ -46,9 +42,8 @@ same-length c = search needs
 returns : tie.Need-returns
 unfolding putIf lineOctets
 returns c =
-    let a = c .before .before .before .args in
-    let l = c .before .line-of .result in
-    rw (c .if1 .taken, ← c .before .line-of .ensures) (two-stored (a .lines .now) (2 * a .count) (l .cells) (l .dropped) (c .before .before .before .pre (c .if1 .taken)))
+    let a = c .before .args in
+    rw (c .if1 .taken) (two-stored (a .lines .now) (2 * a .count) (a .line .cells) (a .line .dropped) (c .before .pre (c .if1 .taken)))
 
 returns-2 : tie.Need-returns-2
 unfolding putIf
@@ -58,7 +53,6 @@ pub put-line-spec : {M : Type 1} → statement M
 put-line-spec =
     tie.close
     (tie.spec
-    line-of-requires
     mul-lines
     slice-write-lines
     mul-lines-2
