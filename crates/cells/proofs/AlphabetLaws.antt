@@ -1,50 +1,76 @@
 -- The alphabet and its extension over all 128 septets, computed.
-use Prim.Native.Nat.{ℕ, _+_, _%_, _≤_, _<_}
+use Prim.Native.Nat.{ℕ, _≤_, _<_, _+_}
 use mathlib.Core.Path.{_≡_, refl}
-use mathlib.Core.Bool.{Bool, true, false, cond, _&&_, _||_}
+use mathlib.Core.Bool.{Bool, true, false, cond}
 use mathlib.Core.List.{List, [], _∷_}
+use mathlib.Core.Logic.{_⊎_, inl, inr, ⊎-elim}
+use native.Mathlib.Nat.{eq-or-lt-of-le}
 use native.Mathlib.Omega.{arith}
-use lib.Dec.{eqb, leb}
+use lib.Dec.{eqb, ltb, leb}
 use types.Run.{OneOf}
-use borrow.Author.Tests.{eqb-true, ne-eqb}
+use borrow.Author.Tests.{eqb-true, ltb-true, leb-true, eq-eqb, ne-eqb}
 use Rattle.codes.proofs.Runs.{agree, on}
 use Rattle.cells.specs.Alphabet.{characterOf, ownOf, extensionOf, madeBy}
+use Rattle.cells.specs.Rows.{placeOf, markAt}
 
 -- two numbers agree on a run, but for some keys
 module _ (f g : ℕ → ℕ) (keys : List ℕ) (low n : ℕ) where
   pub each : agree (λ k. eqb (f k) (g k)) (λ k. true) keys low n ≡ true → (k : ℕ) → low ≤ k → k < low + n → (OneOf keys k → ⊥) → f k ≡ g k
   each t k p q other = eqb-true (f k) (g k) (on (λ j. eqb (f j) (g j)) (λ j. true) keys low n t k p q other)
 
--- the test of the code for the letters whose high octet is 03
-abbrev pub isGreek : ℕ → Bool
-isGreek c = eqb c 0x10 || (leb 0x12 c && leb c 0x1A)
+-- what the last arm of a match knows: every key is missed, and it knows the last one first
+abbrev pub Missed : List ℕ → ℕ → Type 0
+Missed [] x = Unit {0}
+Missed (k ∷ s) x = Missed s x × (x ≡ k → ⊥)
 
-pub high-and-low : (c : ℕ) → c < 128 → cond (isGreek c) (0x300 + characterOf c % 256) (characterOf c % 256) ≡ characterOf c
-unfolding characterOf
-high-and-low c h = each (λ k. cond (isGreek k) (0x300 + characterOf k % 256) (characterOf k % 256)) characterOf [] 0 128 refl c (omega arith) (omega arith) (λ e. e)
+missed : (keys : List ℕ) (x : ℕ) → Missed keys x → OneOf keys x → ⊥
+missed [] x m o = o
+missed (k ∷ []) x m o = m .1 o
+missed (k ∷ j ∷ s) x m (inl e) = m .1 e
+missed (k ∷ j ∷ s) x m (inr o) = missed (j ∷ s) x (m .0) o
 
-pub none-below : (c : ℕ) → c < 0x0A → 0 ≡ ownOf c
-unfolding ownOf
-none-below c h = each (λ k. 0) ownOf [] 0 0x0A refl c (omega arith) (omega arith) (λ e. e)
+-- the keys of mark and of later_mark
+abbrev frontKeys : List ℕ
+frontKeys = 31 ∷ 30 ∷ 29 ∷ 28 ∷ 27 ∷ 26 ∷ 25 ∷ 24 ∷ 23 ∷ 22 ∷ 21 ∷ 20 ∷ 19 ∷ 18 ∷ 17 ∷ 16 ∷ 15 ∷ 14 ∷ 13 ∷ 12 ∷ 11 ∷ 10 ∷ 9 ∷ 8 ∷ 7 ∷ 6 ∷ 5 ∷ 4 ∷ 3 ∷ 2 ∷ 1 ∷ 0 ∷ []
 
-pub none-above : (c : ℕ) → 0x40 < c → c < 128 → (c ≡ 0x65 → ⊥) → 0 ≡ ownOf c
-unfolding ownOf
-none-above c h l other = each (λ k. 0) ownOf (0x65 ∷ []) 0x41 63 refl c (omega arith) (omega arith) other
+abbrev laterKeys : List ℕ
+laterKeys = 58 ∷ 57 ∷ 56 ∷ 55 ∷ 53 ∷ 52 ∷ 51 ∷ 48 ∷ 47 ∷ 43 ∷ 42 ∷ 41 ∷ 40 ∷ 39 ∷ 38 ∷ 37 ∷ 36 ∷ 35 ∷ 34 ∷ 33 ∷ 32 ∷ []
+
+pub behind-front : (place : ℕ) → place < 59 → Missed frontKeys place → 31 < place
+behind-front place h m = ltb-true 31 place (on (λ k. ltb 31 k) (λ k. true) frontKeys 0 59 refl place (omega arith) (omega arith) (missed frontKeys place m))
+
+pub no-mark : (place : ℕ) → 31 < place → place < 59 → Missed laterKeys place → 0 ≡ markAt place
+unfolding markAt characterOf ownOf
+no-mark place l h m = each (λ k. 0) markAt laterKeys 32 27 refl place (omega arith) (omega arith) (missed laterKeys place m)
+
+-- the character by its place
+abbrev made : Bool → ℕ → ℕ
+made escaped c = cond (eqb (placeOf escaped c) 59) (cond (eqb c 0x24) 0xA4 (cond (eqb c 0x40) 0xA1 c)) (markAt (placeOf escaped c))
+
+made-is : (escaped : Bool) (c : ℕ) → c < 128 → made escaped c ≡ madeBy escaped c
+unfolding placeOf markAt characterOf ownOf extensionOf
+made-is true c h = each (made true) (madeBy true) [] 0 128 refl c (omega arith) (omega arith) (λ e. e)
+made-is false c h = each (made false) (madeBy false) [] 0 128 refl c (omega arith) (omega arith) (λ e. e)
+
+place-there : (escaped : Bool) (c : ℕ) → c < 128 → placeOf escaped c ≤ 59
+unfolding placeOf
+place-there true c h = leb-true _ _ (on (λ k. leb (placeOf true k) 59) (λ k. true) [] 0 128 refl c (omega arith) (omega arith) (λ e. e))
+place-there false c h = leb-true _ _ (on (λ k. leb (placeOf false k) 59) (λ k. true) [] 0 128 refl c (omega arith) (omega arith) (λ e. e))
+
+pub mark-there : (escaped : Bool) (c : ℕ) → c < 128 → (placeOf escaped c ≡ 59 → ⊥) → placeOf escaped c < 59
+mark-there escaped c h n = ⊎-elim (λ e. absurd (n e)) (λ l. l) (eq-or-lt-of-le (place-there escaped c h))
 
 -- the ways through made_by
-module _ (escaped : Bool) (c o : ℕ) (told : o ≡ cond escaped (ownOf c) 0) where
-  pub made-own : (o ≡ 0 → ⊥) → o ≡ madeBy escaped c
-  unfolding extensionOf
-  made-own n = go escaped told
-    where
-      go : (b : Bool) → o ≡ cond b (ownOf c) 0 → o ≡ madeBy b c
-      go true e = rw (← e, ne-eqb o 0 n) refl
-      go false e = absurd (n e)
+module _ (escaped : Bool) (c : ℕ) (h : c < 128) where
+  pub marked : (placeOf escaped c ≡ 59 → ⊥) → markAt (placeOf escaped c) ≡ madeBy escaped c
+  marked n = rw (ne-eqb _ _ n) at (made-is escaped c h)
 
-  pub made-default : o ≡ 0 → characterOf c ≡ madeBy escaped c
-  unfolding extensionOf
-  made-default z = go escaped told
-    where
-      go : (b : Bool) → o ≡ cond b (ownOf c) 0 → characterOf c ≡ madeBy b c
-      go true e = rw (← e, z) refl
-      go false e = refl
+  module _ (e : placeOf escaped c ≡ 59) where
+    pub currency : c ≡ 0x24 → 0xA4 ≡ madeBy escaped c
+    currency a = rw (eq-eqb _ _ e, eq-eqb _ _ a) at (made-is escaped c h)
+
+    pub mark-turned : (c ≡ 0x24 → ⊥) → c ≡ 0x40 → 0xA1 ≡ madeBy escaped c
+    mark-turned a b = rw (eq-eqb _ _ e, ne-eqb _ _ a, eq-eqb _ _ b) at (made-is escaped c h)
+
+    pub itself : (c ≡ 0x24 → ⊥) → (c ≡ 0x40 → ⊥) → c ≡ madeBy escaped c
+    itself a b = rw (eq-eqb _ _ e, ne-eqb _ _ a, ne-eqb _ _ b) at (made-is escaped c h)

@@ -1,243 +1,121 @@
-// The default alphabet of GSM 03.38 and its extension table.
+// The default alphabet of GSM 03.38 and its extension table. The compiler makes one table of the arms of `mark` and `later_mark`: a
+// const array would be built anew at each use.
 ghost use mathlib.Core.Path.{_≡_};
-ghost use mathlib.Core.Bool.{cond};
-ghost use Prim.Native.Nat.{_+_, _%_, _<_};
-ghost use Rattle.cells.specs.Alphabet.{characterOf, ownOf, madeBy};
+ghost use mathlib.Core.Bool.{_&&_};
+ghost use Prim.Native.Nat.{_<_};
+ghost use Rattle.cells.specs.Alphabet.{madeBy};
+ghost use Rattle.cells.specs.Rows.{hasOwn, placeAlone, placeOf, markAt};
 
-// The low octet of each character. The high one is 03 for the Greek letters and 00 for the others.
-const ALPHABET: [u8; 128] = [
-    0x40,
-    0xA3,
-    0x24,
-    0xA5,
-    0xE8,
-    0xE9,
-    0xF9,
-    0xEC,
-    0xF2,
-    0xC7,
-    0x0A,
-    0xD8,
-    0xF8,
-    0x0D,
-    0xC5,
-    0xE5,
-    0x94,
-    0x5F,
-    0xA6,
-    0x93,
-    0x9B,
-    0xA9,
-    0xA0,
-    0xA8,
-    0xA3,
-    0x98,
-    0x9E,
-    0x20,
-    0xC6,
-    0xE6,
-    0xDF,
-    0xC9,
-    0x20,
-    0x21,
-    0x22,
-    0x23,
-    0xA4,
-    0x25,
-    0x26,
-    0x27,
-    0x28,
-    0x29,
-    0x2A,
-    0x2B,
-    0x2C,
-    0x2D,
-    0x2E,
-    0x2F,
-    0x30,
-    0x31,
-    0x32,
-    0x33,
-    0x34,
-    0x35,
-    0x36,
-    0x37,
-    0x38,
-    0x39,
-    0x3A,
-    0x3B,
-    0x3C,
-    0x3D,
-    0x3E,
-    0x3F,
-    0xA1,
-    0x41,
-    0x42,
-    0x43,
-    0x44,
-    0x45,
-    0x46,
-    0x47,
-    0x48,
-    0x49,
-    0x4A,
-    0x4B,
-    0x4C,
-    0x4D,
-    0x4E,
-    0x4F,
-    0x50,
-    0x51,
-    0x52,
-    0x53,
-    0x54,
-    0x55,
-    0x56,
-    0x57,
-    0x58,
-    0x59,
-    0x5A,
-    0xC4,
-    0xD6,
-    0xD1,
-    0xDC,
-    0xA7,
-    0xBF,
-    0x61,
-    0x62,
-    0x63,
-    0x64,
-    0x65,
-    0x66,
-    0x67,
-    0x68,
-    0x69,
-    0x6A,
-    0x6B,
-    0x6C,
-    0x6D,
-    0x6E,
-    0x6F,
-    0x70,
-    0x71,
-    0x72,
-    0x73,
-    0x74,
-    0x75,
-    0x76,
-    0x77,
-    0x78,
-    0x79,
-    0x7A,
-    0xE4,
-    0xF6,
-    0xF1,
-    0xFC,
-    0xE0,
-];
-
-// The extension table from 0A to 40; 0 where a code has no character of its own.
-const EXTENSION: [u8; 55] = [
-    0x0C,
-    0x00,
-    0x00,
-    0x00,
-    0x00,
-    0x00,
-    0x00,
-    0x00,
-    0x00,
-    0x00,
-    0x5E,
-    0x00,
-    0x00,
-    0x00,
-    0x00,
-    0x00,
-    0x00,
-    0x20,
-    0x00,
-    0x00,
-    0x00,
-    0x00,
-    0x00,
-    0x00,
-    0x00,
-    0x00,
-    0x00,
-    0x00,
-    0x00,
-    0x00,
-    0x7B,
-    0x7D,
-    0x00,
-    0x00,
-    0x00,
-    0x00,
-    0x00,
-    0x5C,
-    0x00,
-    0x00,
-    0x00,
-    0x00,
-    0x00,
-    0x00,
-    0x00,
-    0x00,
-    0x00,
-    0x00,
-    0x00,
-    0x00,
-    0x5B,
-    0x7E,
-    0x5D,
-    0x00,
-    0x7C,
-];
-
-fn low_of(septet: u8) -> u8
-    requires { ⌜ septet < 128 ⌝ }
-    ensures { λ r. ⌜ r ≡ characterOf septet % 256 ⌝ }
+// Behind the first two rows: 5B to 60, 7B to 7F, and from 43 on the codes of the extension by their lower four bits.
+fn later_mark(place: u8) -> u16
+    requires { ⌜ (0x1F < place) × (place < 59) ⌝ }
+    ensures { λ r. ⌜ r ≡ markAt place ⌝ }
 {
-    ALPHABET[septet as usize]
-}
-
-fn character_of(septet: u8) -> u16
-    requires { ⌜ septet < 128 ⌝ }
-    ensures { λ r. ⌜ r ≡ characterOf septet ⌝ }
-{
-    let low = low_of(septet) as u16;
-    if (septet == 0x10) | ((0x12 <= septet) & (septet <= 0x1A)) {
-        return 0x300 + low;
+    match place {
+        32 => 0xC4,
+        33 => 0xD6,
+        34 => 0xD1,
+        35 => 0xDC,
+        36 => 0xA7,
+        37 => 0xBF,
+        38 => 0xE4,
+        39 => 0xF6,
+        40 => 0xF1,
+        41 => 0xFC,
+        42 => 0xE0,
+        43 => 0x7C,
+        47 => 0x5E,
+        48 => 0x20AC,
+        51 => 0x7B,
+        52 => 0x7D,
+        53 => 0x0C,
+        55 => 0x5B,
+        56 => 0x7E,
+        57 => 0x5D,
+        58 => 0x5C,
+        _ => 0,
     }
-    low
 }
 
-fn own_from_0a(k: u8) -> u8
-    requires { ⌜ k < 55 ⌝ }
-    ensures { λ r. ⌜ r ≡ ownOf (0x0A + k) ⌝ }
+// The characters that are not what their septet is in ASCII. First the first two rows of the alphabet.
+fn mark(place: u8) -> u16
+    requires { ⌜ place < 59 ⌝ }
+    ensures { λ r. ⌜ r ≡ markAt place ⌝ }
 {
-    EXTENSION[k as usize]
+    match place {
+        0x00 => 0x40,
+        0x01 => 0xA3,
+        0x02 => 0x24,
+        0x03 => 0xA5,
+        0x04 => 0xE8,
+        0x05 => 0xE9,
+        0x06 => 0xF9,
+        0x07 => 0xEC,
+        0x08 => 0xF2,
+        0x09 => 0xC7,
+        0x0A => 0x0A,
+        0x0B => 0xD8,
+        0x0C => 0xF8,
+        0x0D => 0x0D,
+        0x0E => 0xC5,
+        0x0F => 0xE5,
+        0x10 => 0x0394,
+        0x11 => 0x5F,
+        0x12 => 0x03A6,
+        0x13 => 0x0393,
+        0x14 => 0x039B,
+        0x15 => 0x03A9,
+        0x16 => 0x03A0,
+        0x17 => 0x03A8,
+        0x18 => 0x03A3,
+        0x19 => 0x0398,
+        0x1A => 0x039E,
+        0x1B => 0x20,
+        0x1C => 0xC6,
+        0x1D => 0xE6,
+        0x1E => 0xDF,
+        0x1F => 0xC9,
+        _ => later_mark(place),
+    }
 }
 
-// The character that a code has of its own behind an escape, or 0. The euro sign is the one that needs two octets.
-fn own_of(escaped: bool, code: u8) -> u16
-    requires { ⌜ code < 128 ⌝ }
-    ensures { λ r. ⌜ r ≡ cond escaped (ownOf code) 0 ⌝ }
+// Where the character of a septet by itself stands among the marks; 59 if it stands nowhere.
+fn place_alone(septet: u8) -> u8
+    ensures { λ r. ⌜ r ≡ placeAlone septet ⌝ }
+{
+    if septet < 0x20 {
+        return septet;
+    }
+    if septet < 0x5B {
+        return 59;
+    }
+    if septet <= 0x60 {
+        return septet - 0x3B;
+    }
+    if septet < 0x7B {
+        return 59;
+    }
+    septet - 0x55
+}
+
+// No two codes with a character of their own have the same lower four bits. Digit k of the number is the upper half of the one that
+// ends in k, or 8, which is that of none.
+fn has_own(escaped: bool, code: u8) -> bool
+    ensures { λ r. ⌜ r ≡ (escaped && hasOwn code) ⌝ }
 {
     if !escaped {
-        return 0;
+        return false;
     }
-    if code == 0x65 {
-        return 0x20AC;
+    (0x2333802288618884u64 >> (code % 16 * 4)) % 16 == (code / 16) as u64
+}
+
+fn place_of(escaped: bool, septet: u8) -> u8
+    ensures { λ r. ⌜ r ≡ placeOf escaped septet ⌝ }
+{
+    if has_own(escaped, septet) {
+        return 43 + septet % 16;
     }
-    if code < 0x0A {
-        return 0;
-    }
-    if 0x40 < code {
-        return 0;
-    }
-    own_from_0a(code - 0x0A) as u16
+    place_alone(septet)
 }
 
 // The character that a septet makes, behind an escape or by itself.
@@ -245,9 +123,15 @@ pub fn made_by(escaped: bool, septet: u8) -> u16
     requires { ⌜ septet < 128 ⌝ }
     ensures { λ r. ⌜ r ≡ madeBy escaped septet ⌝ }
 {
-    let own = own_of(escaped, septet);
-    if own != 0 {
-        return own;
+    let place = place_of(escaped, septet);
+    if place != 59 {
+        return mark(place);
     }
-    character_of(septet)
+    if septet == 0x24 {
+        return 0xA4;
+    }
+    if septet == 0x40 {
+        return 0xA1;
+    }
+    septet as u16
 }
