@@ -73,5 +73,5 @@ WorkedLines =
 abbrev pub MostLines : Type 0
 MostLines =
     lineOctets (linesOf (stringText (packed (padded
-        (0x20 ∷ As 40 ++ (0x20 ∷ 0x20 ∷ As 40) ++ (0x20 ∷ 0x20 ∷ As 40) ++ (0x20 ∷ 0x20 ∷ As 40) ++ (0x20 ∷ As 14))))))
+    (0x20 ∷ As 40 ++ (0x20 ∷ 0x20 ∷ As 40) ++ (0x20 ∷ 0x20 ∷ As 40) ++ (0x20 ∷ 0x20 ∷ As 40) ++ (0x20 ∷ As 14))))))
     ≡ 0 ∷ 1 ∷ 40 ∷ 1 ∷ 0 ∷ 1 ∷ 40 ∷ 1 ∷ 0 ∷ 1 ∷ 40 ∷ 1 ∷ 0 ∷ 1 ∷ 40 ∷ 1 ∷ 14 ∷ 0 ∷ []
