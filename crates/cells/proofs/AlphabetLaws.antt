@@ -3,7 +3,7 @@ use Prim.Native.Nat.{ℕ, _≤_, _<_, _+_}
 use mathlib.Core.Path.{_≡_, refl}
 use mathlib.Core.Bool.{Bool, true, false, cond}
 use mathlib.Core.List.{List, [], _∷_}
-use mathlib.Core.Logic.{_⊎_, inl, inr, ⊎-elim}
+use mathlib.Core.Logic.{inl, inr, ⊎-elim}
 use native.Mathlib.Nat.{eq-or-lt-of-le}
 use native.Mathlib.Omega.{arith}
 use lib.Dec.{eqb, ltb, leb}
@@ -29,15 +29,21 @@ missed (k ∷ []) x m o = m .1 o
 missed (k ∷ j ∷ s) x m (inl e) = m .1 e
 missed (k ∷ j ∷ s) x m (inr o) = missed (j ∷ s) x (m .0) o
 
--- the keys of mark and of later_mark
-abbrev frontKeys : List ℕ
-frontKeys = 31 ∷ 30 ∷ 29 ∷ 28 ∷ 27 ∷ 26 ∷ 25 ∷ 24 ∷ 23 ∷ 22 ∷ 21 ∷ 20 ∷ 19 ∷ 18 ∷ 17 ∷ 16 ∷ 15 ∷ 14 ∷ 13 ∷ 12 ∷ 11 ∷ 10 ∷ 9 ∷ 8 ∷ 7 ∷ 6 ∷ 5 ∷ 4 ∷ 3 ∷ 2 ∷ 1 ∷ 0 ∷ []
+-- the keys of mark, of second_mark and of later_mark
+abbrev firstKeys : List ℕ
+firstKeys = 15 ∷ 14 ∷ 13 ∷ 12 ∷ 11 ∷ 10 ∷ 9 ∷ 8 ∷ 7 ∷ 6 ∷ 5 ∷ 4 ∷ 3 ∷ 2 ∷ 1 ∷ 0 ∷ []
+
+abbrev secondKeys : List ℕ
+secondKeys = 31 ∷ 30 ∷ 29 ∷ 28 ∷ 27 ∷ 26 ∷ 25 ∷ 24 ∷ 23 ∷ 22 ∷ 21 ∷ 20 ∷ 19 ∷ 18 ∷ 17 ∷ 16 ∷ []
 
 abbrev laterKeys : List ℕ
 laterKeys = 58 ∷ 57 ∷ 56 ∷ 55 ∷ 53 ∷ 52 ∷ 51 ∷ 48 ∷ 47 ∷ 43 ∷ 42 ∷ 41 ∷ 40 ∷ 39 ∷ 38 ∷ 37 ∷ 36 ∷ 35 ∷ 34 ∷ 33 ∷ 32 ∷ []
 
-pub behind-front : (place : ℕ) → place < 59 → Missed frontKeys place → 31 < place
-behind-front place h m = ltb-true 31 place (on (λ k. ltb 31 k) (λ k. true) frontKeys 0 59 refl place (omega arith) (omega arith) (missed frontKeys place m))
+pub behind-first : (place : ℕ) → place < 59 → Missed firstKeys place → 15 < place
+behind-first place h m = ltb-true 15 place (on (λ k. ltb 15 k) (λ k. true) firstKeys 0 59 refl place (omega arith) (omega arith) (missed firstKeys place m))
+
+pub behind-second : (place : ℕ) → 15 < place → place < 59 → Missed secondKeys place → 31 < place
+behind-second place l h m = ltb-true 31 place (on (λ k. ltb 31 k) (λ k. true) secondKeys 16 43 refl place (omega arith) (omega arith) (missed secondKeys place m))
 
 pub no-mark : (place : ℕ) → 31 < place → place < 59 → Missed laterKeys place → 0 ≡ markAt place
 unfolding markAt characterOf ownOf

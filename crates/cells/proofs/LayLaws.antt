@@ -1,5 +1,5 @@
 -- The walk through the characters of a string: what holds before each of them.
-use Prim.Native.Nat.{ℕ, zero, suc, _+_, _-_, _*_, _/_, _≤_, _<_}
+use Prim.Native.Nat.{ℕ, suc, _+_, _-_, _*_, _≤_, _<_}
 use mathlib.Core.Path.{_≡_, refl, sym, ap, _∙_}
 use mathlib.Core.Bool.{Bool, true, false, cond, not, _&&_, false≢true}
 use mathlib.Core.List.{List, [], _∷_, _++_}
@@ -14,8 +14,8 @@ use Rattle.octets.proofs.TestLaws.{both}
 use Rattle.cells.specs.Septets.{septetAt, septetsIn, isPadded, septetsSent, unpacked}
 use Rattle.cells.specs.Alphabet.{escape, space, characterOf, extensionOf, madeBy}
 use Rattle.cells.specs.Characters.{characters, stringText}
-use Rattle.cells.specs.Lines.{line, brokenAt, extent, linesOf, lineOctets}
-use Rattle.cells.specs.Rows.{grown, isOver, lineOf, leftOf, endedBy, noRow, flow, putIf, walked, textWith, linesWith, GiveRoom}
+use Rattle.cells.specs.Lines.{line, linesOf, lineOctets}
+use Rattle.cells.specs.Rows.{grown, isOver, leftOf, endedBy, noRow, flow, putIf, walked, textWith, linesWith, GiveRoom}
 use Rattle.cells.specs.declared.rows.Line.{Line}
 use Rattle.cells.specs.declared.rows.Row.{Row}
 use Rattle.cells.specs.declared.Walk.{Walk}

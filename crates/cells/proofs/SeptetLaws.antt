@@ -8,7 +8,7 @@ use native.Mathlib.Omega.{arith}
 use lib.ListN.{length, getD, List·getD-eq-default}
 use lib.Pow.{pow-pos, pow-mono}
 use borrow.Author.Tests.{eq-eqb, ne-eqb}
-use Rattle.cells.specs.Septets.{septetAt, septetsFrom, septetsSent, septetsIn}
+use Rattle.cells.specs.Septets.{septetAt, septetsFrom, septetsSent}
 use Rattle.cells.specs.Rows.{carriedTo}
 
 -- septets in whole sevens of octets and the octets left

@@ -1,5 +1,5 @@
-// The default alphabet of GSM 03.38 and its extension table. The compiler makes one table of the arms of `mark` and `later_mark`: a
-// const array would be built anew at each use.
+// The default alphabet of GSM 03.38 and its extension table. The compiler makes one table of the arms of the three functions
+// that have them: a const array would be built anew at each use.
 ghost use mathlib.Core.Path.{_≡_};
 ghost use mathlib.Core.Bool.{_&&_};
 ghost use Prim.Native.Nat.{_<_};
@@ -37,7 +37,33 @@ fn later_mark(place: u8) -> u16
     }
 }
 
-// The characters that are not what their septet is in ASCII. First the first two rows of the alphabet.
+// The second row of the alphabet, and what is behind it.
+fn second_mark(place: u8) -> u16
+    requires { ⌜ (0x0F < place) × (place < 59) ⌝ }
+    ensures { λ r. ⌜ r ≡ markAt place ⌝ }
+{
+    match place {
+        0x10 => 0x0394,
+        0x11 => 0x5F,
+        0x12 => 0x03A6,
+        0x13 => 0x0393,
+        0x14 => 0x039B,
+        0x15 => 0x03A9,
+        0x16 => 0x03A0,
+        0x17 => 0x03A8,
+        0x18 => 0x03A3,
+        0x19 => 0x0398,
+        0x1A => 0x039E,
+        0x1B => 0x20,
+        0x1C => 0xC6,
+        0x1D => 0xE6,
+        0x1E => 0xDF,
+        0x1F => 0xC9,
+        _ => later_mark(place),
+    }
+}
+
+// The characters that are not what their septet is in ASCII: the first row of the alphabet, and what is behind it.
 fn mark(place: u8) -> u16
     requires { ⌜ place < 59 ⌝ }
     ensures { λ r. ⌜ r ≡ markAt place ⌝ }
@@ -59,23 +85,7 @@ fn mark(place: u8) -> u16
         0x0D => 0x0D,
         0x0E => 0xC5,
         0x0F => 0xE5,
-        0x10 => 0x0394,
-        0x11 => 0x5F,
-        0x12 => 0x03A6,
-        0x13 => 0x0393,
-        0x14 => 0x039B,
-        0x15 => 0x03A9,
-        0x16 => 0x03A0,
-        0x17 => 0x03A8,
-        0x18 => 0x03A3,
-        0x19 => 0x0398,
-        0x1A => 0x039E,
-        0x1B => 0x20,
-        0x1C => 0xC6,
-        0x1D => 0xE6,
-        0x1E => 0xDF,
-        0x1F => 0xC9,
-        _ => later_mark(place),
+        _ => second_mark(place),
     }
 }
 

@@ -1,16 +1,15 @@
-use borrow.Author.Needs.{needs}
 use mathlib.Core.Path.{refl}
 use Rattle.cells.specs.Alphabet.{characterOf}
 use Rattle.cells.specs.Rows.{markAt}
-use Rattle.cells.proofs.AlphabetLaws.{behind-front}
+use Rattle.cells.proofs.AlphabetLaws.{behind-first}
 use Rattle.cells.proofs.alphabet.mark.Statement.{statement}
 use Rattle.cells.proofs.alphabet.mark.Tie as tie
 use Rattle.cells.proofs.alphabet.mark.Reads as reads
 use Rattle.cells.proofs.alphabet.mark.Lts as lts
-use Rattle.cells.proofs.alphabet.later_mark.Reads as later-mark-reads
+use Rattle.cells.proofs.alphabet.second_mark.Reads as second-mark-reads
 
-later-mark-requires : tie.Need-later-mark-requires
-later-mark-requires c κs = (behind-front (c .before .args .place) (c .before .pre) (c .match .rest), c .before .pre)
+second-mark-requires : tie.Need-second-mark-requires
+second-mark-requires c κs = (behind-first (c .before .args .place) (c .before .pre) (c .match .rest), c .before .pre)
 
 returns : tie.Need-returns
 unfolding markAt characterOf
@@ -77,77 +76,13 @@ unfolding markAt characterOf
 returns-16 c = rw (c .match .keys16) refl
 
 returns-17 : tie.Need-returns-17
-unfolding markAt characterOf
-returns-17 c = rw (c .match .keys17) refl
-
-returns-18 : tie.Need-returns-18
-unfolding markAt characterOf
-returns-18 c = rw (c .match .keys18) refl
-
-returns-19 : tie.Need-returns-19
-unfolding markAt characterOf
-returns-19 c = rw (c .match .keys19) refl
-
-returns-20 : tie.Need-returns-20
-unfolding markAt characterOf
-returns-20 c = rw (c .match .keys20) refl
-
-returns-21 : tie.Need-returns-21
-unfolding markAt characterOf
-returns-21 c = rw (c .match .keys21) refl
-
-returns-22 : tie.Need-returns-22
-unfolding markAt characterOf
-returns-22 c = rw (c .match .keys22) refl
-
-returns-23 : tie.Need-returns-23
-unfolding markAt characterOf
-returns-23 c = rw (c .match .keys23) refl
-
-returns-24 : tie.Need-returns-24
-unfolding markAt characterOf
-returns-24 c = rw (c .match .keys24) refl
-
-returns-25 : tie.Need-returns-25
-unfolding markAt characterOf
-returns-25 c = rw (c .match .keys25) refl
-
-returns-26 : tie.Need-returns-26
-unfolding markAt characterOf
-returns-26 c = rw (c .match .keys26) refl
-
-returns-27 : tie.Need-returns-27
-unfolding markAt characterOf
-returns-27 c = rw (c .match .keys27) refl
-
-returns-28 : tie.Need-returns-28
-unfolding markAt characterOf
-returns-28 c = rw (c .match .keys28) refl
-
-returns-29 : tie.Need-returns-29
-unfolding markAt characterOf
-returns-29 c = rw (c .match .keys29) refl
-
-returns-30 : tie.Need-returns-30
-unfolding markAt characterOf
-returns-30 c = rw (c .match .keys30) refl
-
-returns-31 : tie.Need-returns-31
-unfolding markAt characterOf
-returns-31 c = rw (c .match .keys31) refl
-
-returns-32 : tie.Need-returns-32
-unfolding markAt characterOf
-returns-32 c = rw (c .match .keys32) refl
-
-returns-33 : tie.Need-returns-33
-returns-33 c = c .later-mark .ensures
+returns-17 c = c .second-mark .ensures
 
 pub mark-spec : {M : Type 1} → statement M
 mark-spec =
     tie.close
     (tie.spec
-    later-mark-requires
+    second-mark-requires
     returns
     returns-2
     returns-3
@@ -164,20 +99,4 @@ mark-spec =
     returns-14
     returns-15
     returns-16
-    returns-17
-    returns-18
-    returns-19
-    returns-20
-    returns-21
-    returns-22
-    returns-23
-    returns-24
-    returns-25
-    returns-26
-    returns-27
-    returns-28
-    returns-29
-    returns-30
-    returns-31
-    returns-32
-    returns-33)
+    returns-17)
