@@ -11,7 +11,7 @@ use types.Run.{OneOf}
 use borrow.Author.Tests.{eqb-true, ltb-true, leb-true, eq-eqb, ne-eqb}
 use Rattle.codes.proofs.Runs.{agree, on}
 use Rattle.cells.specs.Alphabet.{characterOf, ownOf, extensionOf, madeBy}
-use Rattle.cells.specs.Rows.{placeOf, markAt}
+use Rattle.cells.specs.Marks.{placeOf, markAt}
 
 -- two numbers agree on a run, but for some keys
 module _ (f g : ℕ → ℕ) (keys : List ℕ) (low n : ℕ) where

@@ -1,9 +1,7 @@
 -- The ways through the call.
-use Prim.Native.Nat.{ℕ, _*_, _/_, _≤_, _<_}
+use Prim.Native.Nat.{ℕ, _/_, _≤_, _<_}
 use mathlib.Core.Path.{_≡_, refl}
-use mathlib.Core.Bool.{true}
 use mathlib.Core.List.{List}
-use native.Mathlib.Omega.{arith}
 use lib.ListN.{length}
 use borrow.Author.Tests.{eq-eqb, ne-eqb, le-leb, lt-leb}
 use Rattle.cells.specs.Characters.{stringText}

@@ -1,14 +1,14 @@
 -- Room for every text that is shown, and what C reads of it.
-use Prim.Native.Nat.{ℕ, _*_, _/_, _≤_}
-use mathlib.Core.Path.{_≡_, refl, sym, subst, _∙_}
-use mathlib.Core.List.{List, _++_}
+use Prim.Native.Nat.{ℕ, _/_, _≤_}
+use mathlib.Core.Path.{_≡_, refl, subst, _∙_}
+use mathlib.Core.List.{List}
 use mathlib.Core.Bool.{Bool, true, false, _&&_, false≢true}
 use mathlib.Core.Option.{Option, none, some}
 use native.Mathlib.Omega.{arith}
 use lib.ListN.{length, take, drop}
 use lib.Dec.{eqb, leb}
 use lib.Seq.{take-at}
-use borrow.Author.Tests.{leb-true, eqb-true}
+use borrow.Author.Tests.{leb-true}
 use Rattle.octets.specs.Reader.{sound, Taken, took}
 use Rattle.octets.specs.Splice.{splice}
 use Rattle.octets.specs.Unless.{unless}

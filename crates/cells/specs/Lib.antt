@@ -2,6 +2,7 @@ pub mod Septets
 pub mod Alphabet
 pub mod Characters
 pub mod Lines
+pub mod Marks
 pub mod Rows
 pub mod Cells
 pub mod Packing

@@ -1,38 +1,15 @@
 -- How the code goes: one character after the other, with what it holds of the line that has begun.
 use Prim.Native.Nat.{ℕ, suc, _+_, _-_, _*_, _/_, _%_, _^_, _≤_, _<_}
 use mathlib.Core.List.{List, [], _∷_, _++_}
-use mathlib.Core.Bool.{Bool, cond, _&&_}
+use mathlib.Core.Bool.{Bool, cond}
 use lib.ListN.{length, getD}
-use lib.Dec.{eqb, ltb, leb}
+use lib.Dec.{eqb, ltb}
 use Rattle.octets.specs.Splice.{splice}
-use Rattle.cells.specs.Alphabet.{space, characterOf, ownOf}
+use Rattle.cells.specs.Alphabet.{space}
 use Rattle.cells.specs.Lines.{line, brokenAt, extent, lineOctets}
 use Rattle.cells.specs.declared.rows.Line.{Line}
 use Rattle.cells.specs.declared.rows.Row.{Row}
 use Rattle.cells.specs.declared.Walk.{Walk}
-
--- the codes that have a character of their own, by their lower four bits, which differ: digit k is the upper half of the one that
--- ends in k, or 8
-abbrev pub upperHalf : ℕ → ℕ
-upperHalf k = 0x2333802288618884 / 2 ^ (k * 4) % 16
-
-abbrev pub hasOwn : ℕ → Bool
-hasOwn code = eqb (upperHalf (code % 16)) (code / 16)
-
--- where a character stands in the code's table; 59 for those that are what their septet is in ASCII, and for two more
-abbrev pub placeAlone : ℕ → ℕ
-placeAlone c = cond (ltb c 0x20) c (cond (ltb c 0x5B) 59 (cond (leb c 0x60) (c - 0x3B) (cond (ltb c 0x7B) 59 (c - 0x55))))
-
-unfoldable pub placeOf : Bool → ℕ → ℕ
-placeOf escaped c = cond (escaped && hasOwn c) (43 + c % 16) (placeAlone c)
-
--- what stands there
-unfoldable pub markAt : ℕ → ℕ
-markAt p =
-    cond (ltb p 0x20) (characterOf p)
-    (cond (ltb p 38) (characterOf (p + 0x3B))
-    (cond (ltb p 43) (characterOf (p + 0x55))
-    (ownOf (16 * upperHalf (p - 43) + (p - 43)))))
 
 -- the bits of the octets read before septet i that are of no earlier septet: the upper i % 8 bits of the last of these octets
 unfoldable pub carriedTo : List ℕ → ℕ → ℕ

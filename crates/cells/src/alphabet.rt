@@ -4,7 +4,7 @@ ghost use mathlib.Core.Path.{_≡_};
 ghost use mathlib.Core.Bool.{_&&_};
 ghost use Prim.Native.Nat.{_<_};
 ghost use Rattle.cells.specs.Alphabet.{madeBy};
-ghost use Rattle.cells.specs.Rows.{hasOwn, placeAlone, placeOf, markAt};
+ghost use Rattle.cells.specs.Marks.{hasOwn, placeAlone, placeOf, markAt};
 
 // Behind the first two rows: 5B to 60, 7B to 7F, and from 43 on the codes of the extension by their lower four bits.
 fn later_mark(place: u8) -> u16

@@ -1,16 +1,16 @@
 -- The lines of a text: whether they are printed, and how wide they are.
-use Prim.Native.Nat.{ℕ, _+_, _*_, _≤_}
+use Prim.Native.Nat.{ℕ, _+_, _*_}
 use mathlib.Core.Path.{_≡_, refl}
 use mathlib.Core.List.{List, [], _∷_, _++_}
 use mathlib.Core.Bool.{Bool, true, false}
 use native.Mathlib.Omega.{arith}
-use lib.ListN.{length, take, replicate}
+use lib.ListN.{take, replicate}
 use lib.Dec.{eqb}
 use borrow.Author.Tests.{eq-eqb, ne-eqb, eqb-true, eqb-false}
-use Rattle.printing.specs.Lines.{when, numberLine}
+use Rattle.printing.specs.Lines.{numberLine}
 use Rattle.printing.specs.Forty.{fortyFrom, forty, plain}
 use Rattle.printing.specs.Utf8.{textRows, ShortRows}
-use Rattle.printing.proofs.FortyLaws.{forty-append, forty-when, number-forty}
+use Rattle.printing.proofs.FortyLaws.{forty-append, number-forty}
 use Rattle.printing.proofs.TextFortyLaws.{rows-forty}
 use Rattle.cells.specs.Characters.{stringText}
 use Rattle.cells.specs.Lines.{linesOf, lineOctets}

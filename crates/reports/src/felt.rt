@@ -3,12 +3,10 @@ use cells::Laid;
 use cells::smr_cells;
 use printing::lines::number_line;
 use printing::text::text_rows;
-ghost use mathlib.Core.Path.{_≡_};
 ghost use Prim.Native.Nat.{_+_, _≤_};
-ghost use lib.ListN.{length, replicate};
+ghost use lib.ListN.{length};
 ghost use Rattle.printing.specs.Page.{WroteWithin};
 ghost use Rattle.printing.specs.Lines.{when};
-ghost use Rattle.cells.specs.Cells.{cells};
 ghost use Rattle.reports.specs.Shown.{laidLines, cellLines};
 
 // The lines of a text that is laid out.

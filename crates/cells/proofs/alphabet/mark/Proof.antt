@@ -1,6 +1,6 @@
 use mathlib.Core.Path.{refl}
 use Rattle.cells.specs.Alphabet.{characterOf}
-use Rattle.cells.specs.Rows.{markAt}
+use Rattle.cells.specs.Marks.{markAt}
 use Rattle.cells.proofs.AlphabetLaws.{behind-first}
 use Rattle.cells.proofs.alphabet.mark.Statement.{statement}
 use Rattle.cells.proofs.alphabet.mark.Tie as tie

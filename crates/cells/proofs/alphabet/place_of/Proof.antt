@@ -1,6 +1,6 @@
 use borrow.Author.Needs.{needs}
 use mathlib.Core.Path.{refl, sym, _∙_}
-use Rattle.cells.specs.Rows.{placeOf}
+use Rattle.cells.specs.Marks.{placeOf}
 use Rattle.cells.proofs.alphabet.place_of.Statement.{statement}
 use Rattle.cells.proofs.alphabet.place_of.Tie as tie
 use Rattle.cells.proofs.alphabet.place_of.Reads as reads
