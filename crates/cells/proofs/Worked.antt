@@ -11,7 +11,7 @@ use Rattle.cells.specs.Worked.{WorkedTexts, WorkedLines, MostLines}
 
 pub worked-texts : WorkedTexts
 unfolding septetAt septetsFrom septetsSent characterOf ownOf extensionOf characters stringText number digits packed
-worked-texts = (refl, (refl, (refl, (refl, (refl, (refl, (refl, (refl, (refl, (refl, (refl, (refl, (refl, refl)))))))))))))
+worked-texts = (refl, (refl, (refl, (refl, (refl, (refl, (refl, (refl, (refl, (refl, (refl, (refl, (refl, (refl, refl))))))))))))))
 
 pub worked-lines : WorkedLines
 unfolding septetAt septetsFrom septetsSent characterOf ownOf extensionOf characters stringText number digits packed upToSpace linesBy linesOf lineOctets cells splice

@@ -17,6 +17,7 @@ use Rattle.cells.specs.Packing.{packed, padded, endsInCR, Septets, AreTheBits, 
 use Rattle.cells.specs.Broken.{AsAsked, NoOther, AtMostForty, GiveBack}
 use Rattle.cells.specs.Room.{feltOf, RoomEnough, ReadInC}
 use Rattle.promises.specs.LaterEdition.{LaterEdition, ShowsText}
+use Rattle.promises.specs.Worked.{fresh, buffer, w1, w2}
 
 -- the text of a received message, laid out as firmware does it: by the scheme and the places that it got
 abbrev pub felt : List ℕ → List ℕ → List ℕ → List ℕ → List ℕ → Layout
@@ -38,5 +39,11 @@ LaterFeltTheSame =
     (t b m m′ x : List ℕ) (c : Component) (g : Taken Text) → ShowsText t m b c g → row x ≡ true → LaterEdition c x m m′ → length m′ ≤ 255
     → (text lines : List ℕ) → felt t m′ b text lines ≡ felt t m b text lines
 
+-- the worked menu, W1, and W2, its later edition: the letter A is felt, in one line
+abbrev pub W1Felt : Type 0
+W1Felt =
+    (text lines : List ℕ) → 182 ≤ length text → 18 ≤ length lines
+    → (felt fresh w1 buffer text lines ≡ laidOut (0x41 ∷ []) text lines) × (felt fresh w2 buffer text lines ≡ laidOut (0x41 ∷ []) text lines)
+
 abbrev pub Felt : Type 0
-Felt = AsSent × (LaterFeltTheSame × (RoomEnough × (ReadInC × (BackAsSent × (AreTheBits × (AsAsked × (NoOther × (AtMostForty × GiveBack))))))))
+Felt = AsSent × (LaterFeltTheSame × (W1Felt × (RoomEnough × (ReadInC × (BackAsSent × (AreTheBits × (AsAsked × (NoOther × (AtMostForty × GiveBack)))))))))

@@ -12,15 +12,16 @@ use Rattle.printing.specs.Forty.{fortyFrom, forty, plain}
 use Rattle.printing.specs.Utf8.{textRows, ShortRows}
 use Rattle.printing.proofs.FortyLaws.{forty-append, number-forty}
 use Rattle.printing.proofs.TextFortyLaws.{rows-forty}
+use Rattle.showing.specs.Views.{standing}
 use Rattle.cells.specs.Characters.{stringText}
 use Rattle.cells.specs.Lines.{linesOf, lineOctets}
 use Rattle.cells.specs.Cells.{Layout, cells}
 use Rattle.cells.specs.Broken.{FortyCells}
 use Rattle.cells.specs.declared.rows.Line.{Line}
 use Rattle.cells.proofs.BrokenLaws.{at-most-forty}
-use Rattle.cells.proofs.RoomLaws.{read-in-c}
+use Rattle.cells.proofs.RoomLaws.{room-enough, read-in-c}
 use Rattle.reports.specs.Words.{linesWord}
-use Rattle.reports.specs.Shown.{laidLines, cellLines}
+use Rattle.reports.specs.Shown.{laidLines, cellLines, LinesFollow}
 
 module _ (o : Layout) where
   pub not-laid : (o .laid .code ≡ 0 → ⊥) → laidLines o ≡ []
@@ -53,3 +54,12 @@ cells-forty scheme string = go (eqb (o .laid .code) 0) refl
         (forty-append (numberLine linesWord (o .laid .lines)) (textRows (o .text) (lineOctets (linesOf (stringText string))))
         (number-forty linesWord (o .laid .lines) refl (omega arith))
         (rows-forty (o .text) (lineOctets (linesOf (stringText string))) (short-rows (linesOf (stringText string)) (at-most-forty (stringText string)))))
+
+-- of a received message the lines are always printed
+pub lines-follow : LinesFollow
+unfolding cellLines
+lines-follow t m b r e there scheme =
+    let f = room-enough t m b (replicate 182 0) (replicate 18 0) (omega arith) (omega arith) r e there scheme in
+    let c : cells (r .text .scheme) (standing m (r .text .string)) (replicate 182 0) (replicate 18 0) .laid .code ≡ 0 = rw f refl in
+    let k = read-in-c (r .text .scheme) (standing m (r .text .string)) (replicate 182 0) (replicate 18 0) c in
+    rw (laid (cells (r .text .scheme) (standing m (r .text .string)) (replicate 182 0) (replicate 18 0)) c, k .1, f) refl

@@ -1,4 +1,4 @@
 pub mod FortyLaws
 mod VerdictLaws
 mod RowLaws
-mod FeltLaws
+pub mod FeltLaws

@@ -1,17 +1,23 @@
 -- What is printed of a received message and of a call, line by line.
 use Prim.Native.Nat.{ℕ, _*_}
+use mathlib.Core.Path.{_≡_}
 use mathlib.Core.List.{List, [], _∷_, _++_}
-use mathlib.Core.Bool.{Bool, not, _&&_}
-use lib.ListN.{take, replicate}
+use mathlib.Core.Bool.{Bool, true, not, _&&_}
+use lib.ListN.{length, take, replicate}
 use lib.Dec.{eqb, ltb}
 use Rattle.printing.specs.Lines.{when, octetsLine, numberLine, idLine, problemLine}
 use Rattle.printing.specs.Utf8.{textRows}
+use Rattle.octets.specs.Splice.{splice}
+use Rattle.cells.specs.Characters.{stringText}
+use Rattle.cells.specs.Lines.{linesOf, lineOctets}
 use Rattle.cells.specs.Cells.{Layout, cells}
 use Rattle.components.specs.Component.{invokeTag, resultTag, errorTag, rejectTag}
 use Rattle.showing.specs.Views.{standing}
 use Rattle.showing.specs.declared.ComponentView.{ComponentView}
 use Rattle.showing.specs.declared.TextView.{TextView}
 use Rattle.showing.specs.declared.CauseView.{CauseView}
+use Rattle.telephone.specs.Receive.{receive}
+use Rattle.telephone.specs.FromC.{receivedOf}
 use Rattle.telephone.specs.declared.receive.Received.{Received}
 use Rattle.telephone.specs.declared.calls.Called.{Called}
 use Rattle.reports.specs.Words.{invokeWord, resultWord, errorWord, rejectWord, rejectNone, linkedWord, operationWord, codeWord, parameterWord, schemeWord, stringWord, linesWord, tailWord, causeWord, replyWord, messageWord, valueWord, verdictLine, doneOrRefused}
@@ -80,3 +86,11 @@ calledText begins buffer c =
     ++ when (begins && eqb (c .code) 0) (numberLine valueWord (c .value))
     ++ writtenLine messageWord (c .written) buffer
     ++ (10 ∷ [])
+
+-- "Wherever `string` is printed and the scheme is 0F, `lines N` follows it": of a received message there is always room
+abbrev pub LinesFollow : Type 0
+LinesFollow =
+    (t m b : List ℕ) (r : Received) → r ≡ receivedOf (length m) (receive t m b) → r .text .«is_there» ≡ true → r .text .scheme ≡ 0x0F
+    → cellLines (r .text .scheme) (standing m (r .text .string))
+    ≡ numberLine linesWord (length (linesOf (stringText (standing m (r .text .string)))))
+    ++ textRows (splice (replicate 182 0) 0 (stringText (standing m (r .text .string)))) (lineOctets (linesOf (stringText (standing m (r .text .string)))))
