@@ -3,22 +3,14 @@ use Prim.Native.Nat.{ℕ, _*_, _≤_}
 use mathlib.Core.Path.{_≡_}
 use mathlib.Core.List.{List}
 use mathlib.Core.Bool.{true}
-use mathlib.Core.Option.{some}
 use lib.ListN.{length, take}
-use Rattle.octets.specs.Reader.{Taken}
-use Rattle.parameters.specs.Parameter.{Text}
 use Rattle.showing.specs.Views.{standing}
 use Rattle.telephone.specs.Receive.{receive}
 use Rattle.telephone.specs.FromC.{receivedOf}
-use Rattle.telephone.specs.Stands.{textShown}
 use Rattle.telephone.specs.declared.receive.Received.{Received}
 use Rattle.cells.specs.Characters.{stringText}
 use Rattle.cells.specs.Lines.{linesOf, lineOctets}
 use Rattle.cells.specs.Cells.{Layout, laidOut, cells}
-
--- the one thing that the codec promises: "a string that `smr_receive` shows has 1 to 160 octets"
-abbrev pub ShownStrings : Type 0
-ShownStrings = (t m b : List ℕ) (g : Taken Text) → textShown (receive t m b .shown) ≡ some g → (1 ≤ length (g .value .string)) × (length (g .value .string) ≤ 160)
 
 -- the call with what C got of a received message: the scheme, and the octets at the place of the string
 abbrev pub feltOf : List ℕ → Received → List ℕ → List ℕ → Layout

@@ -1,5 +1,5 @@
 pub mod IdLaws
 pub mod ErrorLaws
 mod Halves
-pub mod Tabulate
+mod Tabulate
 pub mod Runs

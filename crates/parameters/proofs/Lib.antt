@@ -1,4 +1,5 @@
 pub mod ParameterLaws
+pub mod SizeLaws
 pub mod Determined
 mod Paths
 pub mod Worked

@@ -14,12 +14,13 @@ use Rattle.telephone.specs.Receive.{receive}
 use Rattle.telephone.specs.Stands.{textShown, stringOf}
 use Rattle.telephone.proofs.Shown.{nothing-shown}
 use Rattle.telephone.proofs.Stands.{stands}
+use Rattle.telephone.proofs.Strings.{shown-size, strings-shown}
 use Rattle.cells.specs.Characters.{stringText}
 use Rattle.cells.specs.Cells.{laidOut, cells}
 use Rattle.cells.proofs.PackingLaws.{are-the-bits, back-as-sent}
 use Rattle.cells.proofs.BrokenLaws.{as-asked, no-other, at-most-forty, give-back}
 use Rattle.cells.proofs.Worked.{worked-texts}
-use Rattle.cells.proofs.RoomLaws.{shown-strings, room-for, room-enough, read-in-c}
+use Rattle.cells.proofs.RoomLaws.{room-for, room-enough, read-in-c}
 use Rattle.promises.specs.LaterEdition.{ShowsText}
 use Rattle.promises.specs.Worked.{fresh, buffer, w1, w2}
 use Rattle.promises.specs.Felt.{felt, AsSent, LaterFeltTheSame, W1Felt, Felt}
@@ -47,7 +48,7 @@ unfolding stringText
 as-sent t b m s c g w scheme h packs text lines p q =
     let e = text-shown t m b c g w in
     felt-is t m b g e text lines
-    ∙ room-for (g .value .scheme) (g .value .string) text lines scheme (shown-strings t m b g e .1) p q
+    ∙ room-for (g .value .scheme) (g .value .string) text lines scheme (shown-size (receive t m b .shown) g e .1) p q
     ∙ rw (packs, back-as-sent s h) refl
 
 pub later-felt : LaterFeltTheSame
@@ -68,4 +69,4 @@ pub w1-felt : W1Felt
 w1-felt text lines p q = (shows-a w1 [] text lines (worked .0 .1 .1 .0) p q, shows-a w2 (0x04 ∷ 0x01 ∷ 0x02 ∷ []) text lines (worked .1 .0 .1 .1 .0) p q)
 
 pub felt-holds : Felt
-felt-holds = (as-sent, (later-felt, (w1-felt, (room-enough, (read-in-c, (back-as-sent, (are-the-bits, (as-asked, (no-other, (at-most-forty, give-back))))))))))
+felt-holds = (as-sent, (later-felt, (w1-felt, (strings-shown, (room-enough, (read-in-c, (back-as-sent, (are-the-bits, (as-asked, (no-other, (at-most-forty, give-back)))))))))))

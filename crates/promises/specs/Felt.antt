@@ -10,6 +10,7 @@ use Rattle.parameters.specs.Parameter.{Text}
 use Rattle.components.specs.Component.{Component}
 use Rattle.telephone.specs.Receive.{receive}
 use Rattle.telephone.specs.FromC.{receivedOf}
+use Rattle.telephone.specs.Strings.{StringsShown}
 use Rattle.cells.specs.Septets.{CR}
 use Rattle.cells.specs.Characters.{characters}
 use Rattle.cells.specs.Cells.{Layout, laidOut}
@@ -46,4 +47,4 @@ W1Felt =
     → (felt fresh w1 buffer text lines ≡ laidOut (0x41 ∷ []) text lines) × (felt fresh w2 buffer text lines ≡ laidOut (0x41 ∷ []) text lines)
 
 abbrev pub Felt : Type 0
-Felt = AsSent × (LaterFeltTheSame × (W1Felt × (RoomEnough × (ReadInC × (BackAsSent × (AreTheBits × (AsAsked × (NoOther × (AtMostForty × GiveBack)))))))))
+Felt = AsSent × (LaterFeltTheSame × (W1Felt × (StringsShown × (RoomEnough × (ReadInC × (BackAsSent × (AreTheBits × (AsAsked × (NoOther × (AtMostForty × GiveBack))))))))))

@@ -7,7 +7,6 @@ use lib.ListN.{length, take, replicate}
 use lib.Dec.{eqb, ltb}
 use Rattle.printing.specs.Lines.{when, octetsLine, numberLine, idLine, problemLine}
 use Rattle.printing.specs.Utf8.{textRows}
-use Rattle.octets.specs.Splice.{splice}
 use Rattle.cells.specs.Characters.{stringText}
 use Rattle.cells.specs.Lines.{linesOf, lineOctets}
 use Rattle.cells.specs.Cells.{Layout, cells}
@@ -87,10 +86,12 @@ calledText begins buffer c =
     ++ writtenLine messageWord (c .written) buffer
     ++ (10 ∷ [])
 
--- "Wherever `string` is printed and the scheme is 0F, `lines N` follows it": of a received message there is always room
+-- "`lines N` .., then the N lines of text, each alone on a line of its own", as 02 breaks it
+abbrev pub brokenText : List ℕ → List ℕ
+brokenText text = numberLine linesWord (length (linesOf text)) ++ textRows text (lineOctets (linesOf text))
+
+-- "Wherever `string` is printed and the scheme is 0F" they follow it: of a received message there is always room
 abbrev pub LinesFollow : Type 0
 LinesFollow =
     (t m b : List ℕ) (r : Received) → r ≡ receivedOf (length m) (receive t m b) → r .text .«is_there» ≡ true → r .text .scheme ≡ 0x0F
-    → cellLines (r .text .scheme) (standing m (r .text .string))
-    ≡ numberLine linesWord (length (linesOf (stringText (standing m (r .text .string)))))
-    ++ textRows (splice (replicate 182 0) 0 (stringText (standing m (r .text .string)))) (lineOctets (linesOf (stringText (standing m (r .text .string)))))
+    → cellLines (r .text .scheme) (standing m (r .text .string)) ≡ brokenText (stringText (standing m (r .text .string)))

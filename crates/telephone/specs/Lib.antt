@@ -3,3 +3,4 @@ pub mod Receive
 pub mod Calls
 pub mod FromC
 pub mod Stands
+pub mod Strings
