@@ -1,18 +1,16 @@
--- How many lines there are at most, and how large their octets are.
+-- How many lines there are at most.
 use Prim.Native.Nat.{ℕ, zero, suc, _+_, _-_, _*_, _≤_, _<_}
 use mathlib.Core.Path.{_≡_, refl}
-use mathlib.Core.List.{List, [], _∷_, _++_}
+use mathlib.Core.List.{List, _++_}
 use mathlib.Core.Bool.{Bool, true, false}
 use native.Mathlib.Omega.{arith}
-use lib.ListN.{length, take, drop, getD, length-append, length-drop, take-append-drop}
+use lib.ListN.{length, take, drop, length-append, length-drop, take-append-drop}
 use lib.Seq.{take-append-add, length-take-le}
 use lib.Dec.{leb}
 use borrow.Author.Tests.{leb-true, leb-false}
-use Rattle.cells.specs.Lines.{upToSpace, brokenAt, extent, firstLine, linesOf, lineOctets}
-use Rattle.cells.specs.Broken.{FortyCells, FewLines}
-use Rattle.cells.specs.declared.rows.Line.{Line}
+use Rattle.cells.specs.Lines.{upToSpace, brokenAt, extent, firstLine, linesOf}
+use Rattle.cells.specs.Broken.{FewLines}
 use Rattle.cells.proofs.LineLaws.{append-spaced, append-spaceless, extent-least, behind-line, short-lines, long-lines, lines-over}
-use Rattle.cells.proofs.BrokenLaws.{at-most-forty}
 
 -- a line is broken behind the characters at its front that are no spaces, unless after forty
 extent-behind : (near s : List ℕ) → upToSpace near ≡ 0 → length near ≤ 40 → length near ≤ extent (brokenAt (upToSpace (near ++ s)))
@@ -76,19 +74,3 @@ few-to (suc n) text h = go (leb (length text) 40) refl (λ rest l. few-to n rest
 -- forty-one times the number of lines is at most twice the number of characters and forty-one
 pub few-lines : FewLines
 few-lines text = few-to (suc (length text)) text (omega arith)
-
--- the octets of lines of at most forty cells
-octets-forty : (lines : List Line) (i : ℕ) → FortyCells lines
-    → (getD (lineOctets lines) (2 * i) 0 ≤ 40) × (getD (lineOctets lines) (2 * i + 1) 0 ≤ 1)
-unfolding lineOctets
-octets-forty [] i h = (omega arith, omega arith)
-octets-forty (l ∷ lines) zero h = (h .0, h .1 .0)
-octets-forty (l ∷ lines) (suc i) h =
-    let e : 2 * suc i ≡ suc (suc (2 * i)) = omega arith in
-    let f : 2 * suc i + 1 ≡ suc (suc (2 * i + 1)) = omega arith in
-    rw (f, e) (octets-forty lines i (h .1 .1))
-
--- no line's first octet is above 40, and no second one above 1
-pub forty-octets : (text : List ℕ) (i : ℕ)
-    → (getD (lineOctets (linesOf text)) (2 * i) 0 ≤ 40) × (getD (lineOctets (linesOf text)) (2 * i + 1) 0 ≤ 1)
-forty-octets text i = octets-forty (linesOf text) i (at-most-forty text)
