@@ -1,5 +1,4 @@
 pub mod IdLaws
 pub mod ErrorLaws
 mod Halves
-mod Tabulate
 pub mod Runs

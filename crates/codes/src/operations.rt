@@ -5,17 +5,26 @@ ghost use Rattle.codes.specs.Operations.{begins, serves, waits};
 pub fn is_begun(operation: u8) -> bool
     ensures { λ r. ⌜ r ≡ begins operation ⌝ }
 {
-    ((10 <= operation) & (operation <= 14)) | (operation == 17) | (operation == 59)
+    match operation {
+        10..=14 | 17 | 59 => true,
+        _ => false,
+    }
 }
 
 pub fn is_waited_for(operation: u8) -> bool
     ensures { λ r. ⌜ r ≡ waits operation ⌝ }
 {
-    (operation == 18) | (operation == 60) | (operation == 61)
+    match operation {
+        18 | 60..=61 => true,
+        _ => false,
+    }
 }
 
 pub fn is_served(operation: u8) -> bool
     ensures { λ r. ⌜ r ≡ serves operation ⌝ }
 {
-    is_waited_for(operation) | (operation == 38)
+    match operation {
+        18 | 38 | 60..=61 => true,
+        _ => false,
+    }
 }

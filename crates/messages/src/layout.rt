@@ -17,16 +17,12 @@ pub enum MessageType {
 pub fn type_of(octet: u8) -> MessageType
     ensures { λ r. ⌜ TellsType octet r ⌝ }
 {
-    if octet == 0x2A {
-        return MessageType::ReleaseComplete;
+    match octet {
+        0x2A => MessageType::ReleaseComplete,
+        0x3A => MessageType::Facility,
+        0x3B => MessageType::Register,
+        0x00..=0x29 | 0x2B..=0x39 | 0x3C..=0xFF => MessageType::Unknown,
     }
-    if octet == 0x3A {
-        return MessageType::Facility;
-    }
-    if octet == 0x3B {
-        return MessageType::Register;
-    }
-    MessageType::Unknown
 }
 
 pub fn discriminator_of(first: u8) -> u8

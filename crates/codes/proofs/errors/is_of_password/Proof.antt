@@ -1,11 +1,10 @@
-use mathlib.Core.Path.{refl, sym, ap}
+use mathlib.Core.Path.{refl}
 use mathlib.Core.Bool.{Bool, true, false}
 use mathlib.Core.List.{List, [], _∷_}
-use mathlib.Core.Logic.{⊎-elim}
 use Prim.Native.Nat.{ℕ}
 use native.Mathlib.Omega.{arith}
 use Rattle.codes.specs.Errors.{isIn, registerPassword-Errors}
-use Rattle.codes.proofs.Runs.{on}
+use Rattle.codes.proofs.Runs.{at-key, on}
 use Rattle.codes.proofs.errors.is_of_password.Statement.{statement}
 use Rattle.codes.proofs.errors.is_of_password.Tie as tie
 use Rattle.codes.proofs.errors.is_of_password.Reads as reads
@@ -24,7 +23,7 @@ returns-2 : tie.Need-returns-2
 returns-2 c = on (λ k. false) isOne keys 39 217 refl (c .before .before .before .args .code) (omega arith) (omega arith) (c .before .before .match .rest .1)
 
 returns-3 : tie.Need-returns-3
-returns-3 c = sym (⊎-elim (λ e. ap isOne e) (⊎-elim (λ e. ap isOne e) (λ e. ap isOne e)) (c .match .keys1))
+returns-3 c = at-key (λ k. true) isOne keys refl (c .before .args .code) (c .match .keys1)
 
 returns-4 : tie.Need-returns-4
 returns-4 c = on (λ k. true) isOne [] 34 5 refl (c .before .before .before .args .code) (omega arith) (omega arith) (λ e. e)
