@@ -71,7 +71,7 @@ static size_t depth_of_cells(void)
 
 static void print(const char *name, size_t octets)
 {
-    printf("stack of %-16s %5zu\n", name, octets);
+    printf("stack of %-18s %5zu\n", name, octets);
 }
 
 int main(void)

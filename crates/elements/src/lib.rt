@@ -67,8 +67,19 @@ pub fn read_element(s: &[u8]) -> Found
         return Found::Missing;
     }
     let tag = s[0];
-    if (tag == 0) | (tag % 32 == 31) {
-        return Found::Unreadable;
+    // ranges: a short test of the low five bits would let the compiler copy all this into each of the twelve callers
+    match tag {
+        0x01..=0x1E
+        | 0x20..=0x3E
+        | 0x40..=0x5E
+        | 0x60..=0x7E
+        | 0x80..=0x9E
+        | 0xA0..=0xBE
+        | 0xC0..=0xDE
+        | 0xE0..=0xFE => {}
+        _ => {
+            return Found::Unreadable;
+        }
     }
     let Length::Is { octets, taken } = read_length(&s[1..]) else {
         return Found::Unreadable;
