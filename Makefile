@@ -13,7 +13,7 @@ test:
 firmware:
 	firmware/test
 
-# How large the archive is, and how deep each call goes, in octets.
+# Code and constants of each archive, and how deep each call goes, in octets.
 size:
 	firmware/size
 
