@@ -19,6 +19,7 @@ same-is : (a b : Bool) → same a b ≡ true → a ≡ b
 same-is true b e = sym e
 same-is false b e = sym (not-true b e)
 
+-- what is a key of neither list is none of both
 pub neither : (ks ls : List ℕ) (k : ℕ) → (OneOf ks k → ⊥) → (OneOf ls k → ⊥) → OneOf (ks ++ ls) k → ⊥
 neither [] ls k a b h = b h
 neither (x ∷ []) [] k a b h = a h
