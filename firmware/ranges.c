@@ -11,6 +11,8 @@ static const uint8_t begun[] = {10, 11, 12, 13, 14, 17, 59};
 static const uint8_t served[] = {18, 38, 60, 61};
 /* "Refused tags: 00, and low five bits all ones." */
 static const uint8_t refused[] = {0x00, 0x1F, 0x3F, 0x5F, 0x7F, 0x9F, 0xBF, 0xDF, 0xFF};
+/* "each octet 30 to 39 hex" */
+static const uint8_t digits[] = {0x30, 0x31, 0x32, 0x33, 0x34, 0x35, 0x36, 0x37, 0x38, 0x39};
 static const uint8_t menu[] = {0x0B, 0x3B, 0x1C, 0x10, 0xA1, 0x0E, 0x02, 0x01, 0x05, 0x02,
                                0x01, 0x3C, 0x30, 0x06, 0x04, 0x01, 0x0F, 0x04, 0x01, 0x41};
 
@@ -109,9 +111,65 @@ static void test_type(uint8_t type)
               "a type");
 }
 
+/* An octet of the Password that we write, at one of its four places: the answer to an 18. */
+static void test_digit_written(uint8_t octet, int place)
+{
+    const uint8_t asks[] = {0x0B, 0x3B, 0x1C, 0x0B, 0xA1, 0x09, 0x02, 0x01,
+                            0x05, 0x02, 0x01, 18,   0x0A, 0x01, 0x00};
+    uint8_t sent[] = {0x8B, 0x3A, 0x10, 0xA2, 0x0E, 0x02, 0x01, 0x05, 0x30, 0x09,
+                      0x02, 0x01, 18,   0x12, 0x04, 0x31, 0x32, 0x33, 0x34};
+    sent[15 + place] = octet;
+    memset(table, 0, sizeof table);
+    check(receive(asks, sizeof asks).code == SMR_TAKEN, "ranges", "a getPassword");
+    memcpy(before, table, sizeof table);
+    smr_called c = smr_result(table, sizeof table, 0, 0, 5, sent + 13, 6, out, sizeof out);
+    if (memchr(digits, octet, sizeof digits))
+        check(c.code == 0 && c.written == sizeof sent && memcmp(out, sent, sizeof sent) == 0,
+              "ranges", "a digit written");
+    else
+        check(c.code == SMR_PARAMETER && c.written == 0 && is_unchanged(), "ranges",
+              "no digit written");
+}
+
+/* An octet of the Password that comes as the result of our 17. */
+static void test_digit_read(uint8_t octet, int place)
+{
+    const uint8_t service[] = {0x04, 0x01, 0x92};
+    uint8_t result[] = {0x8B, 0x3A, 0x10, 0xA2, 0x0E, 0x02, 0x01, 0x01, 0x30, 0x09,
+                        0x02, 0x01, 17,   0x12, 0x04, 0x31, 0x32, 0x33, 0x34};
+    result[15 + place] = octet;
+    memset(table, 0, sizeof table);
+    smr_called c = smr_begin(table, sizeof table, 17, 1, service, 3, out, sizeof out);
+    check(c.code == 0, "ranges", "registerPassword");
+    smr_received r = receive(result, sizeof result);
+    if (memchr(digits, octet, sizeof digits))
+        check(r.code == SMR_TAKEN && r.shown.kind == SMR_RESULT && r.shown.parameter.start == 13 &&
+                  r.shown.parameter.end == 19,
+              "ranges", "a digit read");
+    else
+        check(r.code == SMR_RELEASED_REJECT && r.shown.kind == 0 &&
+                  out[9] == SMR_PROBLEM_RESULT && out[11] == 2,
+              "ranges", "no digit read");
+}
+
+/* Tag 12 where any one element may stand is no Password: the argument of a 10. */
+static void test_no_password(uint8_t octet, int place)
+{
+    uint8_t parameter[] = {0x12, 0x04, 0x31, 0x32, 0x33, 0x34};
+    parameter[2 + place] = octet;
+    memset(table, 0, sizeof table);
+    smr_called c = smr_begin(table, sizeof table, 10, 1, parameter, 6, out, sizeof out);
+    check(c.code == 0 && memcmp(out + 12, parameter, 6) == 0, "ranges", "registerSS of a 12");
+}
+
 int main(void)
 {
     for (int number = 0; number < 256; number++) {
+        for (int place = 0; place < 4; place++) {
+            test_digit_written((uint8_t)number, place);
+            test_digit_read((uint8_t)number, place);
+            test_no_password((uint8_t)number, place);
+        }
         test_code((uint8_t)number);
         test_tag((uint8_t)number);
         test_begun((uint8_t)number);

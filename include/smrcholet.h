@@ -118,7 +118,7 @@ extern "C" {
  *                        or 83, 01 and one octet, then any elements
  *   service code         04 01 and the service
  *   Guidance             0A 01 and 00, 01 or 02
- *   Password             12 04 and four octets
+ *   Password             12 04 and four digits, each 30 to 39
  *   one element          a tag (not 00, nor with its low five bits all ones),
  *                        ll, contents
  */

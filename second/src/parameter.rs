@@ -47,8 +47,7 @@ impl Kind {
             Kind::Ussd => Text::of(element).is_some(),
             // "Guidance: 0A, length 1, value 0 to 2."
             Kind::Guidance => matches!(element.single(0x0A), Some(0..=2)),
-            // "Password: 12 (hex), length 4."
-            Kind::Password => element.tag == 0x12 && element.length() == 4,
+            Kind::Password => is_password(element),
             Kind::SsForBs => is_ss_for_bs(element),
             // "Service code: 04 of length 1."
             Kind::ServiceCode => element.single(0x04).is_some(),
@@ -74,6 +73,14 @@ impl Text {
             tail,
         })
     }
+}
+
+/// "The definition becomes: tag 12, length 4, each octet 30 to 39 hex."
+fn is_password(element: &Element) -> bool {
+    let octets = &element.contents.octets;
+    element.tag == 0x12
+        && octets.len() == 4
+        && octets.iter().all(|octet| (0x30..=0x39).contains(octet))
 }
 
 fn inside_30(element: &Element) -> Option<Row> {

@@ -15,7 +15,7 @@ use Rattle.octets.proofs.PartLaws.{length-between, getD-between, to-end}
 use Rattle.elements.specs.Element.{element, row}
 use Rattle.elements.specs.Found.{seen}
 use Rattle.elements.specs.declared.Found.the-variants.{Whole}
-use Rattle.parameters.specs.Parameter.{mistyped, isSound, one, holding, string, text, ussdContents, ussd, isGuidance, guidance, basicService, ssForBsContents, contentsAre}
+use Rattle.parameters.specs.Parameter.{mistyped, isSound, one, holding, string, text, ussdContents, ussd, isGuidance, guidance, areDigits, isPassword, password, basicService, ssForBsContents, contentsAre}
 use Rattle.parameters.specs.Seen.{refusal, contentsSeen, ussdSeen}
 use Rattle.octets.specs.Seen.{partRead}
 use Rattle.parameters.specs.declared.one.Contents.the-variants.{From}
@@ -143,9 +143,13 @@ module _ (p : List ℕ) where
     unfolding ussd
     ussd-says scheme a e f = rw (told-sound (holding 0x30 p) _ q, behind k a e p, ← drop-drop e k p) f
 
-  -- Password and service code are told by their lengths
+  -- a service code is told by its length
   pub held-length : (tag n k : ℕ) → contentsSeen p (From k) ≡ refusal (holding tag p) → eqb (length p - k) n ≡ contentsAre (holding tag p) (λ c. eqb (length c) n)
   held-length tag n k q = rw (← length-drop k p) (told-inside (λ c. eqb (length c) n) (holding tag p) _ q)
+
+  -- a Password by its length and its octets
+  pub password-told : (k : ℕ) (b : Bool) → contentsSeen p (From k) ≡ refusal (holding 0x12 p) → b ≡ areDigits (drop k p) → eqb (length p - k) 4 && b ≡ password p
+  password-told k b q e = rw (e, ← length-drop k p) (told-inside isPassword (holding 0x12 p) _ q)
 
   module _ (k : ℕ) (q : contentsSeen p (From k) ≡ refusal (holding 0x0A p)) where
     pub guidance-length : (length p - k ≡ 1 → ⊥) → false ≡ guidance p

@@ -6,13 +6,17 @@ use mathlib.Core.Bool.{true, false}
 use lib.ListN.{replicate}
 use Rattle.octets.specs.Reader.{took}
 use Rattle.elements.specs.Element.{lengthOf, element, rowOf, row}
-use Rattle.parameters.specs.Parameter.{string, text, ussdContents, ussd, guidance, password, serviceCode, ssForBsContents, ssForBs}
-use Rattle.parameters.specs.Suits.{isUssd, suitsInvokeReceived, suitsResultReceived, suitsInvokeWritten, suitsResultWritten, suits}
+use Rattle.parameters.specs.Parameter.{string, text, ussdContents, ussd, guidance, areDigits, password, serviceCode, ssForBsContents, ssForBs}
+use Rattle.parameters.specs.Suits.{isUssd, noneOrOne, suitsInvokeReceived, suitsResultReceived, suitsInvokeWritten, suitsResultWritten, suits}
 use Rattle.parameters.specs.Suits.{InvokeReceived, ResultReceived, InvokeWritten, ResultWritten}
 
 -- a USSD parameter with one octet of text and no tail
 abbrev pub menu : List ℕ
 menu = 0x30 ∷ 0x06 ∷ 0x04 ∷ 0x01 ∷ 0x0F ∷ 0x04 ∷ 0x01 ∷ 0x41 ∷ []
+
+-- what a stuck key sent: no Password, but one element
+abbrev pub spaces : List ℕ
+spaces = 0x12 ∷ 0x04 ∷ 0x20 ∷ 0x20 ∷ 0x20 ∷ 0x20 ∷ []
 
 pub worked :
     -- the tail is what the two strings leave
@@ -36,6 +40,14 @@ pub worked :
     × (guidance (0x0A ∷ 0x01 ∷ 0x03 ∷ []) ≡ false)
     × (password (0x12 ∷ 0x04 ∷ 0x31 ∷ 0x32 ∷ 0x33 ∷ 0x34 ∷ []) ≡ true)
     × (password (0x12 ∷ 0x03 ∷ 0x31 ∷ 0x32 ∷ 0x33 ∷ []) ≡ false)
+    × (password (0x12 ∷ 0x05 ∷ 0x31 ∷ 0x32 ∷ 0x33 ∷ 0x34 ∷ 0x35 ∷ []) ≡ false)
+    -- both ends of the digits at each place, and what stands next to them; the length in its other forms
+    × (password (0x12 ∷ 0x81 ∷ 0x04 ∷ 0x30 ∷ 0x39 ∷ 0x30 ∷ 0x39 ∷ []) ≡ true)
+    × (password (0x12 ∷ 0x82 ∷ 0x00 ∷ 0x04 ∷ 0x39 ∷ 0x30 ∷ 0x39 ∷ 0x30 ∷ []) ≡ true)
+    × (password (0x12 ∷ 0x04 ∷ 0x2F ∷ 0x32 ∷ 0x33 ∷ 0x34 ∷ []) ≡ false)
+    × (password (0x12 ∷ 0x04 ∷ 0x31 ∷ 0x3A ∷ 0x33 ∷ 0x34 ∷ []) ≡ false)
+    × (password (0x12 ∷ 0x04 ∷ 0x31 ∷ 0x32 ∷ 0xB0 ∷ 0x34 ∷ []) ≡ false)
+    × (password (0x12 ∷ 0x04 ∷ 0x31 ∷ 0x32 ∷ 0x33 ∷ 0x20 ∷ []) ≡ false)
     × (serviceCode (0x04 ∷ 0x81 ∷ 0x01 ∷ 0x92 ∷ []) ≡ true)
     -- invokes received
     × (suits InvokeReceived 18 (0x0A ∷ 0x01 ∷ 0x02 ∷ []) ≡ true)
@@ -49,12 +61,14 @@ pub worked :
     × (suits InvokeReceived 59 menu ≡ false)
     -- results received
     × (suits ResultReceived 17 (0x12 ∷ 0x04 ∷ 0x31 ∷ 0x32 ∷ 0x33 ∷ 0x34 ∷ []) ≡ true)
+    × (suits ResultReceived 17 spaces ≡ false)
     × (suits ResultReceived 17 [] ≡ false)
     × (suits ResultReceived 59 [] ≡ true)
     × (suits ResultReceived 59 menu ≡ true)
     × (suits ResultReceived 59 (0x10 ∷ 0x00 ∷ []) ≡ false)
     × (suits ResultReceived 10 (0x10 ∷ 0x00 ∷ []) ≡ true)
     × (suits ResultReceived 10 (0x10 ∷ 0x01 ∷ []) ≡ false)
+    × (suits ResultReceived 10 spaces ≡ true)
     × (suits ResultReceived 11 [] ≡ true)
     × (suits ResultReceived 11 (0x10 ∷ 0x01 ∷ []) ≡ false)
     × (suits ResultReceived 12 (0x10 ∷ 0x00 ∷ []) ≡ true)
@@ -68,6 +82,7 @@ pub worked :
     -- invokes written
     × (suits InvokeWritten 10 (0x10 ∷ 0x00 ∷ []) ≡ true)
     × (suits InvokeWritten 10 [] ≡ false)
+    × (suits InvokeWritten 10 spaces ≡ true)
     × (suits InvokeWritten 11 (0x30 ∷ 0x03 ∷ 0x04 ∷ 0x01 ∷ 0x11 ∷ []) ≡ true)
     × (suits InvokeWritten 11 (0x10 ∷ 0x00 ∷ []) ≡ false)
     × (suits InvokeWritten 12 (0x30 ∷ 0x03 ∷ 0x04 ∷ 0x01 ∷ 0x11 ∷ []) ≡ true)
@@ -83,6 +98,7 @@ pub worked :
     × (suits InvokeWritten 60 menu ≡ false)
     -- results written
     × (suits ResultWritten 18 (0x12 ∷ 0x04 ∷ 0x31 ∷ 0x32 ∷ 0x33 ∷ 0x34 ∷ []) ≡ true)
+    × (suits ResultWritten 18 spaces ≡ false)
     × (suits ResultWritten 18 [] ≡ false)
     × (suits ResultWritten 60 [] ≡ true)
     × (suits ResultWritten 60 menu ≡ true)
@@ -90,5 +106,7 @@ pub worked :
     × (suits ResultWritten 61 [] ≡ true)
     × (suits ResultWritten 61 menu ≡ false)
     × (suits ResultWritten 38 [] ≡ false)
-unfolding lengthOf element rowOf row string text ussdContents ussd ssForBsContents suitsInvokeReceived suitsResultReceived suitsInvokeWritten suitsResultWritten suits
-worked = (refl, refl, refl, refl, refl, refl, refl, refl, refl, refl, refl, refl, refl, refl, refl, refl, refl, refl, refl, refl, refl, refl, refl, refl, refl, refl, refl, refl, refl, refl, refl, refl, refl, refl, refl, refl, refl, refl, refl, refl, refl, refl, refl, refl, refl, refl, refl, refl, refl, refl, refl, refl, refl, refl, refl, refl, refl, refl, refl, refl, refl, refl, refl, refl, refl, refl)
+    -- the parameter of an error
+    × (noneOrOne spaces ≡ true)
+unfolding lengthOf element rowOf row string text ussdContents ussd areDigits ssForBsContents suitsInvokeReceived suitsResultReceived suitsInvokeWritten suitsResultWritten suits
+worked = (refl, refl, refl, refl, refl, refl, refl, refl, refl, refl, refl, refl, refl, refl, refl, refl, refl, refl, refl, refl, refl, refl, refl, refl, refl, refl, refl, refl, refl, refl, refl, refl, refl, refl, refl, refl, refl, refl, refl, refl, refl, refl, refl, refl, refl, refl, refl, refl, refl, refl, refl, refl, refl, refl, refl, refl, refl, refl, refl, refl, refl, refl, refl, refl, refl, refl, refl, refl, refl, refl, refl, refl, refl, refl, refl, refl, refl, refl)

@@ -1,6 +1,6 @@
 -- 01, "Parameters". A parameter is a list of octets; no parameter is no octets, since no element has none.
 use Prim.Native.Nat.{ℕ}
-use mathlib.Core.List.{List}
+use mathlib.Core.List.{List, [], _∷_}
 use mathlib.Core.Bool.{Bool, true, false, cond, _&&_, _||_}
 use lib.ListN.{length, getD}
 use lib.Dec.{leb, eqb}
@@ -55,9 +55,17 @@ ussd p = andThen (holding 0x30 p) ussdContents
 abbrev pub isGuidance : List ℕ → Bool
 isGuidance c = eqb (length c) 1 && leb (getD c 0 0) 2
 
--- "Password: 12 (hex), length 4."
+-- "each octet 30 to 39 hex"
+abbrev pub isDigit : ℕ → Bool
+isDigit octet = leb 0x30 octet && leb octet 0x39
+
+unfoldable pub areDigits : List ℕ → Bool
+areDigits [] = true
+areDigits (octet ∷ c) = isDigit octet && areDigits c
+
+-- Request [4]: "tag 12, length 4, each octet 30 to 39 hex."
 abbrev pub isPassword : List ℕ → Bool
-isPassword c = eqb (length c) 4
+isPassword c = eqb (length c) 4 && areDigits c
 
 -- "Service code: 04 of length 1."
 abbrev pub isServiceCode : List ℕ → Bool

@@ -4,7 +4,7 @@ use super::text::Ussd;
 use elements::Found;
 use octets::MaybePart;
 ghost use mathlib.Core.Path.{_≡_};
-ghost use Rattle.parameters.specs.Parameter.{isSound, ussd, guidance, password, serviceCode, ssForBs, ssForBsContents, basicService};
+ghost use Rattle.parameters.specs.Parameter.{isSound, ussd, guidance, areDigits, password, serviceCode, ssForBs, ssForBsContents, basicService};
 ghost use Rattle.elements.specs.Element.{element};
 
 pub fn is_ussd(p: &[u8]) -> bool
@@ -33,13 +33,30 @@ pub fn is_guidance(p: &[u8]) -> bool
     p[at] <= 2
 }
 
+// A loop to the end of the part, and the length apart: of a loop over four the compiler makes four tests.
+fn are_digits(s: &[u8]) -> bool
+    ensures { λ r. ⌜ r ≡ areDigits (now (s .entry)) ⌝ }
+{
+    let mut i = 0;
+    while i < s.len() {
+        match s[i] {
+            0x30..=0x39 => {}
+            _ => {
+                return false;
+            }
+        }
+        i += 1;
+    }
+    true
+}
+
 pub fn is_password(p: &[u8]) -> bool
     ensures { λ r. ⌜ r ≡ password (now (p .entry)) ⌝ }
 {
     let Contents::From(at) = super::one::contents_of(p, 0x12) else {
         return false;
     };
-    p.len() - at == 4
+    (p.len() - at == 4) & are_digits(&p[at..])
 }
 
 pub fn is_service_code(p: &[u8]) -> bool

@@ -4,7 +4,6 @@ use mathlib.Core.Path.{_≡_, refl, sym, subst}
 use mathlib.Core.List.{List, [], _∷_}
 use mathlib.Core.Bool.{true}
 use lib.IntN.{pos}
-use borrow.Author.Tests.{leb-true, eqb-false}
 use Rattle.octets.specs.Splice.{splice}
 use Rattle.elements.specs.Element.{lengthOf, element, shortest}
 use Rattle.codes.specs.Errors.{listed, errorsOf}
@@ -17,24 +16,19 @@ use Rattle.messages.specs.Scan.{information, clearOf, clear, required, firstOf,
 use Rattle.table.specs.Table.{entryOf, soundImage, entryAt, soundEntries, valid}
 use Rattle.judging.specs.StepSix.{among, operationOf, without}
 use Rattle.deciding.specs.Steps.{pickedEntry, replyFirst}
-use Rattle.promises.specs.Reaches.{Arrives, inFacility, ReachesStepSix, ReachesInRelease}
+use Rattle.promises.specs.Reaches.{inFacility, ReachesStepSix, ReachesInRelease}
 use Rattle.promises.specs.Worked.{buffer, Answers}
 use Rattle.promises.specs.Editions.{own59}
 use Rattle.promises.specs.ErrorCases.{own11, errorWith, endWith, ErrorCases}
 use Rattle.promises.proofs.ErrorLists.{others-are-refused, its-own-are-shown}
+use Rattle.promises.proofs.Reached.{arrives}
 
 module _ (t : List ℕ) (image : valid t ≡ true) (isOpen : entryAt t 0 .isOpen ≡ true) (code : ℕ) where
-  facility-arrives : Arrives t (errorWith code) buffer
-  facility-arrives = record { image = image; room = leb-true 12 24 refl; most = leb-true 11 255 refl; least = leb-true 2 11 refl; protocol = refl; transaction = eqb-false 0 7 refl }
-
-  end-arrives : Arrives t (endWith code) buffer
-  end-arrives = record { image = image; room = leb-true 12 24 refl; most = leb-true 12 255 refl; least = leb-true 2 12 refl; protocol = refl; transaction = eqb-false 0 7 refl }
-
   unfoldable facility-reaches : ReachesStepSix t (errorWith code) buffer (error (pos 1) code [])
   unfolding pickedEntry lengthOf element single parameter coded errorOf afterTag component inside facility sized mandatory clearOf clear required
   facility-reaches =
       record {
-        arrives = facility-arrives;
+        arrives = arrives t (errorWith code) buffer image refl refl refl refl refl;
         type = facilityType;
         passes = inFacility refl isOpen;
         facilityValue = 0xA3 ∷ 0x06 ∷ 0x02 ∷ 0x01 ∷ 0x01 ∷ 0x02 ∷ 0x01 ∷ code ∷ [];
@@ -47,7 +41,7 @@ module _ (t : List ℕ) (image : valid t ≡ true) (isOpen : entryAt t 0 .isOpen
   unfolding pickedEntry lengthOf element single parameter coded errorOf afterTag component inside facility information firstOf firstTaken
   end-reaches =
       record {
-        arrives = end-arrives;
+        arrives = arrives t (endWith code) buffer image refl refl refl refl refl;
         isRelease = refl;
         isOpen = isOpen;
         facilityValue = 0xA3 ∷ 0x06 ∷ 0x02 ∷ 0x01 ∷ 0x01 ∷ 0x02 ∷ 0x01 ∷ code ∷ [];

@@ -42,11 +42,13 @@ module _ (P : Judged → Type 0) (onProblem : (tag number : ℕ) → isProblem t
         past (serves o) invokeProblem 1 _ refl λ s.
         past-linked (e .own) linked o _ (past (suits InvokeReceived o p) invokeProblem 2 _ refl λ u. onAccepted (not-true (full (e .peer)) f))
 
-    pub walk-result : (o : Option ℕ) (p : List ℕ) → (among id (e .own) ≡ true → P (accepted (withoutOwn e id))) → P (judgeResult e id o p)
+    pub walk-result : (o : Option ℕ) (p : List ℕ)
+        → (among id (e .own) ≡ true → isOurs o (operationOf id (e .own)) && suits ResultReceived (operationOf id (e .own)) p ≡ true → P (accepted (withoutOwn e id)))
+        → P (judgeResult e id o p)
     unfolding judgeResult
     walk-result o p onAccepted =
         past (among id (e .own)) resultProblem 0 _ refl λ a.
-        past (isOurs o (operationOf id (e .own)) && suits ResultReceived (operationOf id (e .own)) p) resultProblem 2 _ refl λ u. onAccepted a
+        past (isOurs o (operationOf id (e .own)) && suits ResultReceived (operationOf id (e .own)) p) resultProblem 2 _ refl λ u. onAccepted a u
 
     pub walk-error : (code : ℕ) → (among id (e .own) ≡ true → mayReturn (operationOf id (e .own)) code ≡ true → P (accepted (withoutOwn e id))) → P (judgeError e id code)
     unfolding judgeError

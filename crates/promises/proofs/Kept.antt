@@ -38,7 +38,7 @@ module _ (e : Entry) (h : holds e ≡ true) (id : ℤ) where
   without-own a = rw (open-of e id h a) (holds-open (without id (e .own)) (e .peer) (one-less begins id (e .own) (own-of e h)) (peer-of e h), refl)
 
   result-kept : (o : Option ℕ) (p : List ℕ) → Kept (judgeResult e id o p)
-  result-kept o p = walk-result Kept no-problem e id o p without-own
+  result-kept o p = walk-result Kept no-problem e id o p λ a u. without-own a
 
   error-kept : (code : ℕ) → Kept (judgeError e id code)
   error-kept code = walk-error Kept no-problem e id code λ a r. without-own a

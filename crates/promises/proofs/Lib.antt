@@ -7,9 +7,14 @@ mod Kept
 mod Listed
 mod RejectBack
 mod Reached
+mod ShownWalk
+mod FourDigits
 pub mod OneVerdict
 pub mod ErrorLists
 pub mod ReadBack
+pub mod WrittenDigits
+pub mod ShownDigits
+pub mod Demand2
 pub mod CannotAlter
 pub mod PastIsTooLong
 pub mod Exists
@@ -21,6 +26,7 @@ pub mod Determined
 pub mod Worked
 pub mod Editions
 pub mod ErrorCases
+pub mod PasswordCases
 pub mod NeverDamaged
 pub mod Felt
 pub mod All

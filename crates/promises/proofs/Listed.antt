@@ -148,7 +148,7 @@ judged-tells (accepted e) id c r h = tt
 six-tells : (e : Entry) (c : Component) (r : List ℕ) → Tells (stepSix e c r)
 unfolding stepSix
 six-tells e (invoke id l o p) r = judged-tells (judgeInvoke e id l o p) id (invoke id l o p) r (walk-invoke Told told e id l o p λ f. tt)
-six-tells e (result id o p) r = judged-tells (judgeResult e id o p) id (result id o p) r (walk-result Told told e id o p λ a. tt)
+six-tells e (result id o p) r = judged-tells (judgeResult e id o p) id (result id o p) r (walk-result Told told e id o p λ a u. tt)
 six-tells e (error id k p) r = judged-tells (judgeError e id k) id (error id k p) r (walk-error Told told e id k λ a r. tt)
 six-tells e (reject id tag n) r = tt
 

@@ -1,4 +1,4 @@
--- Demand 2 holds: what is written reads back.
+-- What is written reads back.
 use Prim.Native.Nat.{ℕ}
 use mathlib.Core.Path.{_≡_, refl, sym, ap, subst, _∙_}
 use mathlib.Core.List.{List, [], _∷_}
@@ -31,10 +31,8 @@ use Rattle.telephone.specs.Calls.{callOutcome, noValue, begin, invokeWithin, re
 use Rattle.telephone.proofs.Paths.{fitting-is}
 use Rattle.telephone.proofs.OutcomeLaws.{front-is}
 use Rattle.telephone.proofs.Shown.{some-inj}
-use Rattle.promises.specs.ReadBack.{ComponentReadsBack, Carries, CallReadsBack, Demand2}
+use Rattle.promises.specs.ReadBack.{ComponentReadsBack, Carries, CallReadsBack}
 use Rattle.promises.proofs.CallFacts.{Fine, fine-begin, fine-invoke, fine-result, fine-error, transaction-is}
-use Rattle.promises.proofs.ErrorLists.{error-lists}
-use Rattle.promises.proofs.RejectBack.{reject-reads-back}
 
 -- one element, and nothing behind it, is a parameter
 one-parameter : (p : List ℕ) → isSound (one p) ≡ true → IsParameter p
@@ -175,10 +173,10 @@ module _ (t b : List ℕ) (which : Option ℕ) (value : Sending → ℕ) where
   at-front : (first type : ℕ) (o : Answer Sending) (s : Sending) (c : Component) → o ≡ sound s → Laid first type (s .message) c → Carries first type (callOutcome t b value o) c
   at-front first type o s c e l = rw e (record { body = l .body; front = front-is b (s .message) ∙ l .is; behind = l .behind; found = l .found; back = l .back })
 
-component-reads-back : ComponentReadsBack
+pub component-reads-back : ComponentReadsBack
 component-reads-back c w = read-back c w
 
-call-reads-back : CallReadsBack
+pub call-reads-back : CallReadsBack
 unfolding begin invokeWithin result calls-error
 call-reads-back t b p flag value operation code id i =
     let n = length b in (
@@ -196,6 +194,3 @@ call-reads-back t b p flag value operation code id i =
         ),
       ),
     )
-
-pub demand-2 : Demand2
-demand-2 = (component-reads-back, (call-reads-back, (reject-reads-back, error-lists)))

@@ -178,7 +178,7 @@ judged-rejects (accepted e) id c r h k = tt
 six-rejects : (e : Entry) (c : Component) (r : List ℕ) → HasId c → Rejects (stepSix e c r)
 unfolding stepSix
 six-rejects e (invoke id linked o p) r h = judged-rejects (judgeInvoke e id linked o p) id _ r h (walk-invoke Tagged tagged e id linked o p λ f. tt)
-six-rejects e (result id o p) r h = judged-rejects (judgeResult e id o p) id _ r h (walk-result Tagged tagged e id o p λ a. tt)
+six-rejects e (result id o p) r h = judged-rejects (judgeResult e id o p) id _ r h (walk-result Tagged tagged e id o p λ a u. tt)
 six-rejects e (error id code p) r h = judged-rejects (judgeError e id code) id _ r h (walk-error Tagged tagged e id code λ a r. tt)
 six-rejects e (reject id tag n) r h = tt
 

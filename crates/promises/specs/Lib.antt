@@ -2,6 +2,8 @@ pub mod OneVerdict
 pub mod Reaches
 pub mod ErrorLists
 pub mod ReadBack
+pub mod Passwords
+pub mod Demand2
 pub mod Unrecognized
 pub mod LaterEdition
 pub mod Parts
@@ -9,6 +11,7 @@ pub mod Determined
 pub mod Worked
 pub mod Editions
 pub mod ErrorCases
+pub mod PasswordCases
 pub mod NeverDamaged
 pub mod Felt
 pub mod All

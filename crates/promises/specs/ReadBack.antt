@@ -21,7 +21,6 @@ use Rattle.deciding.specs.Steps.{replyFirst}
 use Rattle.telephone.specs.Outcome.{Outcome}
 use Rattle.telephone.specs.Receive.{receive}
 use Rattle.telephone.specs.Calls as calls
-use Rattle.promises.specs.ErrorLists.{ErrorLists}
 
 -- every component that can be written: each kind, every id from -128 to 127, a parameter or none
 abbrev pub ComponentReadsBack : Type 0
@@ -64,7 +63,3 @@ pub record CarriesReject (first : ℕ) (o : Outcome) : Type 0 where
 -- every Reject that a verdict sends
 abbrev pub RejectReadsBack : Type 0
 RejectReadsBack = (t m b : List ℕ) → Octets m → receive t m b .code ≡ 3 → CarriesReject (replyFirst m) (receive t m b)
-
--- and the errors that each operation may return
-abbrev pub Demand2 : Type 0
-Demand2 = ComponentReadsBack × (CallReadsBack × (RejectReadsBack × ErrorLists))

@@ -42,7 +42,7 @@ fn conversation(seed: u64) -> Talk {
                 talk.say(writing::spoiled(&mut c, &line));
             }
             16 if c.one_in(2) => talk.say(over(&mut c)),
-            17..=22 => rare_call(&mut c, &mut talk),
+            17..=26 => rare_call(&mut c, &mut talk),
             _ => one_call(&mut c, &mut talk),
         }
     }

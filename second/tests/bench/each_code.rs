@@ -1,7 +1,8 @@
 //! Every code as the error to each operation that we begin, answer by answer.
 
+use crate::carried::{FACILITY, RELEASE_COMPLETE};
 use crate::codes::problem;
-use crate::errors::{sent, FACILITY, RELEASE_COMPLETE};
+use crate::errors::sent;
 use crate::notation::hex;
 use crate::proved::compare;
 use crate::tables::{self, OWN};

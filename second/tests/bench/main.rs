@@ -5,6 +5,8 @@
 
 #[path = "../compare/call.rs"]
 mod call;
+#[path = "../compare/carried.rs"]
+mod carried;
 #[path = "../compare/cells/notation.rs"]
 mod cells_notation;
 #[path = "../compare/chance.rs"]
@@ -17,10 +19,14 @@ mod components;
 mod errors;
 #[path = "../compare/messages.rs"]
 mod messages;
+#[path = "../compare/met.rs"]
+mod met;
 #[path = "../compare/notation.rs"]
 mod notation;
 #[path = "../compare/parameters.rs"]
 mod parameters;
+#[path = "../compare/passwords.rs"]
+mod passwords;
 #[path = "../compare/rare.rs"]
 mod rare;
 #[path = "../compare/report.rs"]

@@ -1,6 +1,6 @@
 //! What has been printed over a run, and what must be.
 
-use crate::errors;
+use crate::met::{named, Met};
 use crate::reading::{lines, Line};
 use std::collections::BTreeMap;
 
@@ -64,8 +64,8 @@ const NAMED: &[&str] = &[
 ];
 
 impl Occurrences {
-    /// What was printed, and what the errors met.
-    pub fn add(&mut self, output: &[u8], met: &[(&str, u8)]) {
+    /// What was printed, and what the calls met.
+    pub fn add(&mut self, output: &[u8], met: &[Met]) {
         for line in lines(output) {
             match line {
                 // The end of an answer.
@@ -86,7 +86,7 @@ impl Occurrences {
     /// Every one often enough, and no other.
     pub fn check(&self) {
         let printed = NAMED.iter().map(|name| name.to_string());
-        let named: Vec<String> = printed.chain(of_errors()).collect();
+        let named: Vec<String> = printed.chain(to_meet()).collect();
         for name in &named {
             let count = self.counts.get(name).copied().unwrap_or(0);
             println!("{name}: {count}");
@@ -100,13 +100,13 @@ impl Occurrences {
     }
 }
 
-/// What errors must meet, each number for itself.
-fn of_errors() -> impl Iterator<Item = String> {
+/// What calls must meet, each number for itself.
+fn to_meet() -> impl Iterator<Item = String> {
     let each = |(name, numbers): (&'static str, &'static [u8])| {
         let numbers = numbers.iter();
         numbers.map(move |number| format!("{name} {number}"))
     };
-    errors::MET.into_iter().flat_map(each)
+    named().flat_map(each)
 }
 
 fn kind(line: &[u8]) -> String {

@@ -2,19 +2,16 @@
 
 use crate::call::Call;
 use crate::chance::Chance;
-use crate::errors;
+use crate::met::{met, Met};
 use crate::writing;
 use second::bench::Bench;
 use second::table::Table;
 
-/// The least reply buffer with which a message is read.
-const LEAST_ROOM: usize = 12;
-
 pub struct Talk {
     pub input: Vec<u8>,
     pub lines: usize,
-    /// What the errors met that were received.
-    pub met: Vec<(&'static str, u8)>,
+    /// What the calls met.
+    pub met: Vec<Met>,
     bench: Bench,
     /// The last table that wasn't damaged.
     sound: Vec<u8>,
@@ -50,9 +47,7 @@ impl Talk {
     /// A call's line.
     pub fn call(&mut self, c: &mut Chance, call: &Call) {
         let line = writing::line(c, call);
-        if let (Call::Receive(message), LEAST_ROOM..) = (call, self.room()) {
-            self.met.extend(errors::met(self.table(), message));
-        }
+        self.met.extend(met(self.table(), call, self.room()));
         self.say(line);
     }
 

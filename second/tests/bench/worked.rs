@@ -26,6 +26,23 @@ message 0B 3B 1C 0D A1 0B 02 01 01 02 01
 
 ";
 
+const REGISTER_PASSWORD: &str = "begin 17 1 040192";
+const REGISTER_PASSWORD_ANSWER: &str = "\
+done 0
+value 0
+message 0B 3B 1C 0B A1 09 02 01 01 02 01
+ 11 04 01 92 7F 01 00
+
+";
+
+const GET_PASSWORD_ANSWER: &str = "\
+verdict 0 taken
+invoke 5
+operation 18
+parameter 0A 01 00
+
+";
+
 /// Lines, and their answers.
 const WORKED: &[(&[&str], &[&str])] = &[
     // W1
@@ -314,6 +331,106 @@ reply 0B 2A 1C 08 A4 06 02 01 01 80 01
             "verdict 5 network released\n\n",
             W1_ANSWER,
             "done 0\nmessage 8B 3A 08 A3 06 02 01 05 02 01 48\n\n",
+        ],
+    ),
+    // Passwords that we write: spaces, one space, 3A, spaces without room, digits, and
+    // digits under a longer length.
+    (
+        &[
+            "receive 0B3B1C0BA1090201050201120A0100",
+            "result 0 0 5 120420202020",
+            "result 0 0 5 120430313220",
+            "result 0 0 5 12043031323A",
+            "buffer 0",
+            "result 0 0 5 120420202020",
+            "buffer 255",
+            "result 0 0 5 120430393039",
+            "receive 0B3A0BA1090201050201120A0100",
+            "result 0 0 5 12810431323334",
+        ],
+        &[
+            GET_PASSWORD_ANSWER,
+            "refused 25 wrong parameter\n\n",
+            "refused 25 wrong parameter\n\n",
+            "refused 25 wrong parameter\n\n",
+            "buffer 0\n\n",
+            "refused 25 wrong parameter\n\n",
+            "buffer 255\n\n",
+            "\
+done 0
+message 8B 3A 10 A2 0E 02 01 05 30 09 02
+ 01 12 12 04 30 39 30 39
+
+",
+            GET_PASSWORD_ANSWER,
+            "\
+done 0
+message 8B 3A 11 A2 0F 02 01 05 30 0A 02
+ 01 12 12 81 04 31 32 33 34
+
+",
+        ],
+    ),
+    // Passwords that we read: with a space, with it in RELEASE COMPLETE, digits.
+    (
+        &[
+            REGISTER_PASSWORD,
+            "receive 8B3A10A20E0201013009020111120431323320",
+            REGISTER_PASSWORD,
+            "receive 8B2A1C10A20E0201013009020111120431323320",
+            REGISTER_PASSWORD,
+            "receive 8B3A10A20E0201013009020111120431323334",
+        ],
+        &[
+            REGISTER_PASSWORD_ANSWER,
+            "\
+verdict 3 reject sent
+reply 0B 2A 1C 08 A4 06 02 01 01 82 01
+ 02
+
+",
+            REGISTER_PASSWORD_ANSWER,
+            "verdict 5 network released\n\n",
+            REGISTER_PASSWORD_ANSWER,
+            "\
+verdict 0 taken
+result 1
+operation 17
+parameter 12 04 31 32 33 34
+
+",
+        ],
+    ),
+    // Their tag where any one element may stand: for registerSS, from it, in an error.
+    (
+        &[
+            "begin 10 1 120420202020",
+            "receive 8B3A10A20E020101300902010A120420202020",
+            "receive 0B3B1C0BA1090201050201120A0100",
+            "error 0 0 5 34 120420202020",
+        ],
+        &[
+            "\
+done 0
+value 0
+message 0B 3B 1C 0E A1 0C 02 01 01 02 01
+ 0A 12 04 20 20 20 20 7F 01 00
+
+",
+            "\
+verdict 0 taken
+result 1
+operation 10
+parameter 12 04 20 20 20 20
+
+",
+            GET_PASSWORD_ANSWER,
+            "\
+done 0
+message 8B 3A 0E A3 0C 02 01 05 02 01 22
+ 12 04 20 20 20 20
+
+",
         ],
     ),
     // Causes, with octets and without; a text in a release.

@@ -102,14 +102,10 @@ fn lend(
 }
 
 pub fn on_second(table: &[u8], call: &Call, b: &[u8]) -> Facts {
-    let called = match call {
-        Call::Receive(message) => return received_by_second(table, message, b),
-        Call::Begin(operation, id, p) => second::begin(table, *operation, *id, p, b),
-        Call::Invoke(n, operation, id, p) => second::invoke(table, *n, *operation, *id, p, b),
-        Call::Result(n, id, p) => second::result(table, *n, *id, p, b),
-        Call::Error(n, id, code, p) => second::error(table, *n, *id, *code, p, b),
-        Call::Release(n) => second::release(table, *n, b),
-    };
+    if let Call::Receive(message) = call {
+        return received_by_second(table, message, b);
+    }
+    let called = call.called(table, b).expect("a local call");
     let (received, value) = local((&called).into());
     Facts {
         received,
@@ -156,14 +152,10 @@ fn report(table: &[u8], call: &Call, room: usize, archive: &Facts, second: &Fact
     lines("table", &hex(table));
     match call {
         Call::Receive(message) => lines("receive", &hex(message)),
-        Call::Begin(_, _, p)
-        | Call::Invoke(_, _, _, p)
-        | Call::Result(_, _, p)
-        | Call::Error(_, _, _, p) => {
-            lines("call", &format!("{call:?}"));
-            lines("parameter", &hex(p));
-        }
-        Call::Release(_) => lines("call", &format!("{call:?}")),
+        _ => lines("call", &format!("{call:?}")),
+    }
+    if let Some(parameter) = call.parameter() {
+        lines("parameter", &hex(parameter));
     }
     for (name, facts) in [("archive", archive), ("second", second)] {
         lines(name, &format!("{:?}", facts.received));

@@ -27,6 +27,7 @@ const SUITED: &[Suited] = &[
         "3081A604010F0481A0 text(160)",
     ),
     ("fresh", |p| Call::Begin(10, 1, p), "30030401 11"),
+    ("fresh", |p| Call::Begin(10, 1, p), "120420202020"),
     ("fresh", |p| Call::Begin(11, 1, p), "3003040111"),
     ("fresh", |p| Call::Begin(12, 1, p), "3006040111820100"),
     (
@@ -58,9 +59,11 @@ const SUITED: &[Suited] = &[
         |p| Call::Result((0, 0), 5, p),
         "12820004 31323334",
     ),
+    ("peer18", |p| Call::Result((0, 0), 5, p), "12810430393039"),
     ("peer61", |p| Call::Result((0, 0), 5, p), "none"),
     ("both17", |p| Call::Result((1, 0), 7, p), "120431323334"),
     ("w1", |p| Call::Error((0, 0), 5, 1, p), "none"),
+    ("peer18", |p| Call::Error((0, 0), 5, 34, p), "120420202020"),
     ("peer61", |p| Call::Error((0, 0), 5, 72, p), "0A0101"),
     ("both17", |p| Call::Error((1, 0), 7, 38, p), "30820000"),
 ];

@@ -1,8 +1,9 @@
 //! Every code as the error to each operation that we begin, and as one of ours.
 
 use crate::both::{compare, compare_message, Call, Named};
+use crate::carried::{FACILITY, REGISTER, RELEASE_COMPLETE};
 use crate::codes::{problem, LISTED};
-use crate::errors::{sent, FACILITY, REGISTER, RELEASE_COMPLETE};
+use crate::errors::sent;
 use crate::notation::octets;
 use crate::tables::{self, OWN, PEER};
 use second::ffi::{Component, Received, Span};

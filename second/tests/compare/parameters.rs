@@ -120,10 +120,37 @@ pub fn guidance(c: &mut Chance) -> Vec<u8> {
     element(c, 0x0A, &[value])
 }
 
+/// Four digits in every other; else nearly that, or three or five digits.
 pub fn password(c: &mut Chance) -> Vec<u8> {
-    let length = c.pick(&[4, 4, 4, 4, 4, 4, 3, 5]);
-    let digits = c.octets(length);
+    let count = match c.below(10) {
+        0..=4 => 4,
+        5..=8 => return near_password(c),
+        _ => c.pick(&[3, 5]),
+    };
+    let digits = digits(c, count);
     element(c, 0x12, &digits)
+}
+
+/// Octets that are nearly digits.
+const NO_DIGITS: [u8; 6] = [0x20, 0x29, 0x2F, 0x3A, 0x40, 0xB0];
+
+/// Four octets, one of them no digit, at any place; now and then all four, as from a
+/// stuck key.
+pub fn near_password(c: &mut Chance) -> Vec<u8> {
+    let octet = match c.one_in(7) {
+        true => c.octet(),
+        false => c.pick(&NO_DIGITS),
+    };
+    let mut octets = digits(c, 4);
+    match c.one_in(8) {
+        true => octets.fill(octet),
+        false => octets[c.below(4)] = octet,
+    }
+    element(c, 0x12, &octets)
+}
+
+fn digits(c: &mut Chance, count: usize) -> Vec<u8> {
+    (0..count).map(|_| c.pick(b"0123456789")).collect()
 }
 
 pub fn service_code(c: &mut Chance) -> Vec<u8> {
@@ -132,7 +159,7 @@ pub fn service_code(c: &mut Chance) -> Vec<u8> {
     element(c, 0x04, &code)
 }
 
-/// One element of any tag, short or long.
+/// One element of any tag, short or long; now and then a Password, or nearly one.
 pub fn any(c: &mut Chance) -> Vec<u8> {
     let longest = c.pick(&[0, 3, 8, 8, 20, 140]);
     match c.below(8) {
@@ -141,6 +168,7 @@ pub fn any(c: &mut Chance) -> Vec<u8> {
             let tag = tag(c);
             element(c, tag, &vec![0x55; length])
         }
+        1 => password(c),
         _ => row(c, 1, longest),
     }
 }

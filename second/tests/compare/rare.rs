@@ -1,12 +1,14 @@
 //! What is rare by chance, made on purpose.
 
 use crate::call::{Call, Named};
+use crate::carried::{FACILITY, RELEASE_COMPLETE};
 use crate::chance::Chance;
 use crate::codes;
 use crate::components::near;
-use crate::errors::{sent, FACILITY, RELEASE_COMPLETE};
+use crate::errors;
 use crate::notation::any;
 use crate::parameters as p;
+use crate::passwords;
 use crate::tables;
 
 const OPEN: [u8; 5] = [1, 0, 0, 0, 0];
@@ -14,13 +16,16 @@ const OPEN: [u8; 5] = [1, 0, 0, 0, 0];
 /// A rare call; the image is changed where the call needs it, and stays sound.
 pub fn call(c: &mut Chance, image: &mut [u8]) -> Call {
     let named = (c.below(2) as u8, c.below(7) as u8);
-    match c.below(7) {
+    match c.below(12) {
         0 => linked(c, image, named),
         1 => eighth(c, image),
         2 => too_long(c, image, named),
         3 => unlisted(c, image, named),
         4..=5 => listed(c, image, named),
-        _ => released(c, image, named),
+        6 => released(c, image, named),
+        7 => asked_for(c, image, named),
+        8..=10 => registered(c, image, named),
+        _ => no_password(c, image, named),
     }
 }
 
@@ -60,6 +65,11 @@ fn eighth(c: &mut Chance, image: &mut [u8]) -> Call {
 /// A parameter that suits, with which the message has 255 octets or more, mostly.
 fn too_long(c: &mut Chance, image: &mut [u8], named: Named) -> Call {
     let parameter = any(c.range(239, 260));
+    with_any_element(c, image, named, parameter)
+}
+
+/// A call whose parameter may be any one element.
+fn with_any_element(c: &mut Chance, image: &mut [u8], named: Named, parameter: Vec<u8>) -> Call {
     let id = c.id();
     match c.below(3) {
         0 => {
@@ -82,7 +92,7 @@ fn too_long(c: &mut Chance, image: &mut [u8], named: Named) -> Call {
 fn unlisted(c: &mut Chance, image: &mut [u8], named: Named) -> Call {
     let own = tables::own(c);
     put(image, named, tables::open(Some(own), None));
-    Call::Receive(sent(FACILITY, named, own[0], c.octet(), &[]))
+    Call::Receive(errors::sent(FACILITY, named, own[0], c.octet(), &[]))
 }
 
 /// An error that our invoke's operation may return, or one that it may not, or of any
@@ -97,7 +107,7 @@ fn listed(c: &mut Chance, image: &mut [u8], named: Named) -> Call {
         _ => c.octet(),
     };
     let kind = c.pick(&[FACILITY, RELEASE_COMPLETE, RELEASE_COMPLETE]);
-    Call::Receive(sent(kind, named, near(c, own[0]), code, &[]))
+    Call::Receive(errors::sent(kind, named, near(c, own[0]), code, &[]))
 }
 
 /// A release with a cause, which is empty in every other.
@@ -107,4 +117,41 @@ fn released(c: &mut Chance, image: &mut [u8], named: Named) -> Call {
     let mut message = vec![head(named), 0x2A, 0x08, length as u8];
     message.extend(c.octets(length));
     Call::Receive(message)
+}
+
+/// The Password for a getPassword that waits, or nearly one.
+fn asked_for(c: &mut Chance, image: &mut [u8], named: Named) -> Call {
+    let id = c.id();
+    let own = c.flip().then(|| tables::own(c));
+    put(image, named, tables::open(own, Some([id, 18])));
+    Call::Result(named, near(c, id) as i8, p::password(c))
+}
+
+/// The result of our registerPassword; its id now and then another.
+fn registered(c: &mut Chance, image: &mut [u8], named: Named) -> Call {
+    let id = c.id();
+    let peer = c.flip().then(|| tables::peer(c));
+    put(image, named, tables::open(Some([id, 17]), peer));
+    let kind = c.pick(&[FACILITY, RELEASE_COMPLETE]);
+    let password = p::password(c);
+    Call::Receive(passwords::sent(kind, named, near(c, id), 17, &password))
+}
+
+/// A Password's tag, mostly without four digits, where any one element may stand.
+fn no_password(c: &mut Chance, image: &mut [u8], named: Named) -> Call {
+    let parameter = p::near_password(c);
+    let kind = c.pick(&[FACILITY, RELEASE_COMPLETE]);
+    match c.below(8) {
+        0..=1 => with_any_element(c, image, named, parameter),
+        2 => {
+            let own = tables::own(c);
+            put(image, named, tables::open(Some(own), None));
+            Call::Receive(errors::sent(kind, named, own[0], 34, &parameter))
+        }
+        _ => {
+            let (id, operation) = (c.id(), c.range(10, 14) as u8);
+            put(image, named, tables::open(Some([id, operation]), None));
+            Call::Receive(passwords::sent(kind, named, id, operation, &parameter))
+        }
+    }
 }

@@ -11,6 +11,8 @@ const OF_ELEMENTS: [u8; 10] = [0x00, 0x01, 0x02, 0x04, 0x05, 0x1F, 0x30, 0x80, 0
 const OF_MESSAGES: [u8; 10] = [0x00, 0x01, 0x02, 0x08, 0x0F, 0x10, 0x1C, 0x7F, 0x80, 0xFF];
 /// Octets that make errors: of the lists of 10 and 11, of none, not in the table.
 const OF_ERRORS: [u8; 10] = [0x00, 0x01, 0x02, 0x05, 0x0A, 0x14, 0x1F, 0x22, 0x80, 0x81];
+/// Digits, and octets that are nearly digits.
+const OF_PASSWORDS: [u8; 10] = [0x20, 0x29, 0x2F, 0x30, 0x31, 0x38, 0x39, 0x3A, 0x40, 0xB0];
 /// Octets that make an SS-ForBS.
 const OF_SERVICES: [u8; 10] = [0x00, 0x01, 0x02, 0x04, 0x1F, 0x30, 0x81, 0x82, 0x83, 0x84];
 
@@ -82,6 +84,21 @@ fn in_errors() {
             at(&(table, head, &[(0xA3, "020101")]), &OF_ERRORS);
         }
     }
+}
+
+#[test]
+fn in_passwords() {
+    let of_17 = &[(0xA2, "020101"), (0x30, "020111"), (0x12, "")];
+    let of_10 = &[(0xA2, "020101"), (0x30, "02010A"), (0x12, "")];
+    for head in ["8B3A", "8B2A1C"] {
+        at(&("own17", head, of_17), &OF_PASSWORDS);
+    }
+    at(&("own10", "8B3A", of_10), &OF_PASSWORDS);
+    let table = tables::named("peer18");
+    each_row(&OF_PASSWORDS, |row| {
+        let call = Call::Result((0, 0), 5, nested(&[(0x12, "")], row));
+        compare(&table, &call, 16 + row.len());
+    });
 }
 
 /// Each row at this place.

@@ -52,7 +52,7 @@ fn hold(c: &mut Chance, length: usize, tally: &mut Tally) {
     };
     for _ in 0..length {
         let call = match c.below(5) {
-            _ if c.one_in(28) => rare::call(c, &mut table),
+            _ if c.one_in(16) => rare::call(c, &mut table),
             0..=2 => Call::Receive(messages::message(c, &table)),
             _ => wishes::call(c, &table),
         };

@@ -1,7 +1,8 @@
 //! What has occurred over a run, and what must.
 
 use crate::both::{Call, Facts};
-use crate::errors;
+use crate::met::{met, named};
+use crate::passwords;
 use std::collections::BTreeMap;
 
 #[derive(Default)]
@@ -12,6 +13,8 @@ pub struct Tally {
 
 /// Each must occur at least once in so many calls, over the whole run.
 const CALLS: u64 = 2_500;
+/// Passwords taken and refused: by the thousand in the shortest run.
+const CALLS_OFTEN: u64 = 500;
 
 /// What 01 names.
 const NAMED: [(&str, &[u8]); 8] = [
@@ -31,13 +34,11 @@ impl Tally {
         self.one_more();
         match (facts.code(), call) {
             (code @ 20.., _) => self.count("refusal", code),
-            (code, Call::Receive(message)) => {
-                self.add_verdict(code, facts);
-                for (name, number) in errors::met(table, message) {
-                    self.count(name, number);
-                }
-            }
+            (code, Call::Receive(_)) => self.add_verdict(code, facts),
             (code, _) => self.count("called", code),
+        }
+        for (name, number) in met(table, call, facts.buffer.len()) {
+            self.count(name, number);
         }
         if facts.received.text.is_there != 0 {
             self.count("text", facts.received.shown.operation);
@@ -82,15 +83,24 @@ impl Tally {
 
     /// Every number that 01 names, often enough, and no other.
     pub fn check(&self) {
-        self.check_named(NAMED.into_iter().chain(errors::MET));
+        self.check_named(NAMED.into_iter().chain(named()));
+        self.check_once_in(CALLS_OFTEN, passwords::OFTEN);
     }
 
     /// The same for these numbers.
     pub fn check_named(&self, named: impl IntoIterator<Item = (&'static str, &'static [u8])>) {
+        self.check_once_in(CALLS, named);
+    }
+
+    fn check_once_in(
+        &self,
+        calls: u64,
+        named: impl IntoIterator<Item = (&'static str, &'static [u8])>,
+    ) {
         for (name, numbers) in named {
             for number in numbers {
                 let count = self.counts.get(&(name, *number)).copied().unwrap_or(0);
-                if count * CALLS < self.calls {
+                if count * calls < self.calls {
                     println!("| {name} {number}: only {count}");
                     panic!("too few");
                 }

@@ -1,0 +1,89 @@
+-- Every Password that is shown as the result of 17 is four digits.
+use Prim.Native.Nat.{ℕ}
+use mathlib.Core.Path.{_≡_, refl, sym, subst, _∙_}
+use mathlib.Core.List.{List}
+use mathlib.Core.Bool.{true, and-false, and-eq-true-iff}
+use mathlib.Core.Option.{Option, none, some}
+use native.Mathlib.Omega.{arith}
+use lib.IntN.{ℤ}
+use lib.ListN.{length}
+use Rattle.octets.specs.Splice.{splice}
+use Rattle.codes.specs.Problems.{resultProblem}
+use Rattle.parameters.specs.Parameter.{password}
+use Rattle.parameters.specs.Suits.{suits, suitsResultReceived, ResultReceived}
+use Rattle.components.specs.Component.{Component, invoke, result, error, reject, resultTag}
+use Rattle.components.specs.Shows.{Shows}
+use Rattle.table.specs.Table.{Entry, entryAt}
+use Rattle.judging.specs.StepSix.{among, operationOf, withoutOwn, isOurs, judgeResult}
+use Rattle.deciding.specs.Decision.{withReject, taken}
+use Rattle.deciding.specs.Steps.{pickedEntry, shown, onJudged, stepSix}
+use Rattle.showing.specs.Views.{standing, viewOf, componentView}
+use Rattle.showing.specs.declared.Span.{Span}
+use Rattle.telephone.specs.Receive.{act, receive}
+use Rattle.telephone.specs.FromC.{receivedOf}
+use Rattle.telephone.proofs.Shown.{nothing-shown}
+use Rattle.telephone.proofs.Stands.{stands}
+use Rattle.promises.specs.ErrorLists.{outstanding}
+use Rattle.promises.specs.Passwords.{FourDigits, ShownAreDigits, DigitsInC, OthersAreNotShown, DigitsAreShown}
+use Rattle.promises.proofs.FourDigits.{are-four, is-password, no-password}
+use Rattle.promises.proofs.JudgedWalk.{walk-result}
+use Rattle.promises.proofs.Reached.{fares}
+use Rattle.promises.proofs.ShownWalk.{IsShown, Good, shown-fits}
+
+-- where our 17 waits, the parameter that suits is a Password
+received-is : (o : ℕ) (p : List ℕ) → o ≡ 17 → suits ResultReceived o p ≡ password p
+unfolding suits suitsResultReceived
+received-is o p e = rw e
+
+-- what step 6 makes of a result of our 17
+module _ (e : Entry) (id : ℤ) (w : operationOf id (e .own) ≡ 17) (o : Option ℕ) (p : List ℕ) where
+  abbrev Fits : Type 0
+  Fits = (among id (e .own) ≡ true) × FourDigits p
+
+  six-good : (behind r : List ℕ) → IsShown (result id o p) behind (stepSix e (result id o p) r) → Good Fits (stepSix e (result id o p) r)
+  unfolding stepSix
+  six-good behind r =
+      walk-result (λ j. IsShown (result id o p) behind (onJudged j id (result id o p) r) → Good Fits (onJudged j id (result id o p) r)) (λ tag n h. nothing-shown) e id o p
+      (λ a u k. (refl, (a, are-four p (sym (received-is _ p w) ∙ and-eq-true-iff (isOurs o (operationOf id (e .own))) (suits ResultReceived (operationOf id (e .own)) p) .0 u .1))))
+
+pub shown-are-digits : ShownAreDigits
+shown-are-digits t m b id o p behind k w =
+    let e = entryAt t (pickedEntry m) in
+    shown-fits (result id o p) behind (Fits e id w o p) t m b (six-good e id w o p behind) k
+
+-- by its kind, what C gets of a component is a result
+module _ (t m b : List ℕ) where
+  abbrev Stand : Type 0
+  Stand = FourDigits (standing m (receivedOf (length m) (receive t m b) .shown .parameter))
+
+  of-result : (c : Component) (r : List ℕ) (s : Span) → receive t m b .shown ≡ some (record { component = c; behind = r }) → viewOf c s .kind ≡ resultTag
+      → operationOf (viewOf c s .id) (outstanding t m) ≡ 17 → Stand
+  of-result (invoke id l o p) r s e k w = absurd (omega arith)
+  of-result (result id o p) r s e k w = subst FourDigits (sym (stands t m b .parameter ∙ rw e)) (shown-are-digits t m b id o p r e w .1 .1)
+  of-result (error id code p) r s e k w = absurd (omega arith)
+  of-result (reject id tag n) r s e k w = absurd (omega arith)
+
+  of-shown : (s : Shows) → receive t m b .shown ≡ s → componentView (length m) s .kind ≡ resultTag → operationOf (componentView (length m) s .id) (outstanding t m) ≡ 17 → Stand
+  unfolding componentView
+  of-shown none e k w = absurd (omega arith)
+  of-shown (some v) e k w = of-result (v .component) (v .behind) _ e k w
+
+pub digits-in-c : DigitsInC
+digits-in-c t m b k w = of-shown t m b (receive t m b .shown) refl k w
+
+module _ (e : Entry) (id : ℤ) (p r : List ℕ) (a : among id (e .own) ≡ true) (w : operationOf id (e .own) ≡ 17) where
+  not-digits : (o : Option ℕ) → (FourDigits p → ⊥) → stepSix e (result id o p) r ≡ withReject (some id) resultProblem 2
+  unfolding stepSix judgeResult
+  not-digits o n = rw (a, received-is _ p w, no-password p n, and-false)
+
+  are-digits : FourDigits p → stepSix e (result id (some 17) p) r ≡ taken (withoutOwn e id) (shown (result id (some 17) p) r)
+  unfolding stepSix judgeResult isOurs
+  are-digits f = rw (a, received-is _ p w, is-password p f, w)
+
+pub others-are-not-shown : OthersAreNotShown
+unfolding act splice
+others-are-not-shown t m b id o p w n = fares t m b (result id o p) _ (λ r. not-digits (entryAt t (pickedEntry m)) id p r (w .0) (w .1) o n)
+
+pub digits-are-shown : DigitsAreShown
+unfolding act splice
+digits-are-shown t m b id p w f = fares t m b (result id (some 17) p) _ (λ r. are-digits (entryAt t (pickedEntry m)) id p r (w .0) (w .1) f)
