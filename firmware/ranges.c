@@ -33,18 +33,23 @@ static void menu_waits(void)
 
 static bool is_unchanged(void) { return memcmp(before, table, sizeof table) == 0; }
 
+/* The call sends this, or it is refused with this number and changes nothing. */
+static void check_sent(smr_called c, bool sends, const uint8_t *sent, size_t length,
+                       uint8_t refusal, const char *what)
+{
+    if (sends)
+        check(c.code == 0 && c.written == length && memcmp(out, sent, length) == 0, "ranges", what);
+    else
+        check(c.code == refusal && c.written == 0 && is_unchanged(), "ranges", what);
+}
+
 /* B6: a code that we send as the error to the menu. */
 static void test_code(uint8_t code)
 {
     const uint8_t sent[] = {0x8B, 0x3A, 0x08, 0xA3, 0x06, 0x02, 0x01, 0x05, 0x02, 0x01, code};
     menu_waits();
     smr_called c = smr_error(table, sizeof table, 0, 0, 5, code, NULL, 0, out, sizeof out);
-    if (memchr(codes, code, sizeof codes))
-        check(c.code == 0 && c.written == sizeof sent && memcmp(out, sent, sizeof sent) == 0,
-              "ranges", "a code of ours");
-    else
-        check(c.code == SMR_NO_OPERATION && c.written == 0 && is_unchanged(), "ranges",
-              "a code that is not listed");
+    check_sent(c, memchr(codes, code, sizeof codes), sent, sizeof sent, SMR_NO_OPERATION, "a code");
 }
 
 /* A tag of a parameter that we write, and of one that is read. */
@@ -123,12 +128,8 @@ static void test_digit_written(uint8_t octet, int place)
     check(receive(asks, sizeof asks).code == SMR_TAKEN, "ranges", "a getPassword");
     memcpy(before, table, sizeof table);
     smr_called c = smr_result(table, sizeof table, 0, 0, 5, sent + 13, 6, out, sizeof out);
-    if (memchr(digits, octet, sizeof digits))
-        check(c.code == 0 && c.written == sizeof sent && memcmp(out, sent, sizeof sent) == 0,
-              "ranges", "a digit written");
-    else
-        check(c.code == SMR_PARAMETER && c.written == 0 && is_unchanged(), "ranges",
-              "no digit written");
+    check_sent(c, memchr(digits, octet, sizeof digits), sent, sizeof sent, SMR_PARAMETER,
+               "a digit written");
 }
 
 /* An octet of the Password that comes as the result of our 17. */

@@ -31,6 +31,8 @@ typedef struct {
 #define FRESH {0, 0, 0, 0, 0}
 #define ASKED {3, QUESTION, 59, 0, 0}
 #define WAITS {7, QUESTION, 59, MENU, 60}
+#define REGISTERS {3, QUESTION, 17, 0, 0}
+#define WAITS_FOR_PASSWORD {7, QUESTION, 17, MENU, 18}
 
 static const step steps[] = {
     /* a network begins with a menu */
@@ -47,6 +49,9 @@ static const step steps[] = {
     {"end, result", "smr_receive", SMR_RESULT, 0x8B, 0x2A, 0x44, 1, 0, ASKED},
     {"end, error", "smr_receive", SMR_ERROR, 0x8B, 0x2A, 0, 0, 0, ASKED},
     {"error", "smr_receive", SMR_ERROR, 0x8B, 0x3A, 0, 0, 0, ASKED},
+    /* a Password is asked for, and comes back as the result of our registerPassword */
+    {"password out", "smr_result", SMR_NOTHING, 0, 0, 0, 0, 0, WAITS_FOR_PASSWORD},
+    {"password in", "smr_receive", SMR_RESULT, 0x8B, 0x3A, 0, 0, 0, REGISTERS},
     /* a text is laid out on forty cells: one letter, and the longest */
     {"text of 1", "smr_cells", SMR_NOTHING, 0, 0, 0x0F, 1, 0, FRESH},
     {"text of 160", "smr_cells", SMR_NOTHING, 0, 0, 0x0F, 160, 0, FRESH},
@@ -56,6 +61,7 @@ static const step steps[] = {
 static uint8_t tables[CALLS][SMR_TABLE], message[300], reply[SMR_REPLY], out[SMR_MESSAGE];
 static size_t length;
 static const uint8_t text[] = {0x30, 0x06, 0x04, 0x01, 0x0F, 0x04, 0x01, 0x41};
+static const uint8_t digits[] = {0x12, 0x04, 0x30, 0x39, 0x33, 0x31};
 static unsigned kept; /* what a call gave is used, so that none is left out */
 
 /* Octets put before what is there of the message. */
@@ -96,8 +102,9 @@ static void make_message(const step *s)
         make_text(s);
         put(6, (uint8_t[]){0x02, 0x01, MENU, 0x02, 0x01, 60});
     } else if (s->kind == SMR_RESULT) {
-        make_text(s);
-        put(3, (uint8_t[]){0x02, 0x01, 59});
+        if (s->string > 0) make_text(s);
+        else put(sizeof digits, digits);
+        put(3, (uint8_t[]){0x02, 0x01, s->entry[2]});
         wrap(0x30);
         put(3, (uint8_t[]){0x02, 0x01, QUESTION});
     } else {
@@ -123,6 +130,11 @@ static void begin(int i)
 static void result(int i)
 {
     kept += (unsigned)smr_result(tables[i], SMR_TABLE, 1, 0, MENU, text, sizeof text, out, sizeof out).written;
+}
+
+static void password(int i)
+{
+    kept += (unsigned)smr_result(tables[i], SMR_TABLE, 1, 0, MENU, digits, sizeof digits, out, sizeof out).written;
 }
 
 static void cells(int i)
@@ -207,7 +219,8 @@ int main(int argc, char **argv)
     const char *word = "-";
     if (s->kind != SMR_NOTHING) make_message(s);
     else if (s->string > 0) ours = cells, length = s->string, memset(message, 0x41, length);
-    else ours = strcmp(s->name, "begin") == 0 ? begin : result;
+    else if (strcmp(s->name, "begin") == 0) ours = begin;
+    else ours = s->entry[4] == 18 ? password : result;
 #ifdef OSMO
     if (s->kind != SMR_NOTHING) {
         word = "can't";
