@@ -2,13 +2,14 @@
 use Prim.Native.Nat.{ℕ, _+_, _≤_}
 use mathlib.Core.Path.{_≡_, refl, ap, _∙_}
 use mathlib.Core.List.{List, [], _∷_}
-use mathlib.Core.Bool.{Bool, true, false, not, _&&_, false≢true, and-eq-true-iff}
+use mathlib.Core.Bool.{Bool, true, false, not, _&&_, false≢true}
 use native.Mathlib.Omega.{arith}
 use lib.ListN.{length, length-append}
 use lib.Dec.{leb, ltb, eqb}
 use borrow.Author.Tests.{eqb-true, leb-true, le-leb}
 use Rattle.octets.specs.Reader.{Answer, fault, sound, Taken, took, octet, done, front}
 use Rattle.octets.proofs.ReaderLaws.{sound-inj, not-sound, through, passed, either, alone-is, front-was}
+use Rattle.octets.proofs.TestLaws.{both}
 use Rattle.elements.specs.Element.{unreadable, twoOctets, lengthOf, refusedTag, Element, element}
 use Rattle.parameters.specs.Parameter.{mistyped, one, holding, contentsAre, isDigit, areDigits, isPassword, password}
 use Rattle.promises.specs.Passwords.{Digit, FourDigits}
@@ -28,11 +29,11 @@ held tag p c h next =
     next (alone-is mistyped (element p) e q ∙ rw w)
 
 digit : (octet : ℕ) → isDigit octet ≡ true → Digit octet
-digit octet h = let k = and-eq-true-iff (leb 0x30 octet) (leb octet 0x39) .0 h in (leb-true 0x30 octet (k .0), leb-true octet 0x39 (k .1))
+digit octet h = let k = both (leb 0x30 octet) (leb octet 0x39) h in (leb-true 0x30 octet (k .0), leb-true octet 0x39 (k .1))
 
 first-digit : (octet : ℕ) (s : List ℕ) → areDigits (octet ∷ s) ≡ true → Digit octet × (areDigits s ≡ true)
 unfolding areDigits
-first-digit octet s h = let k = and-eq-true-iff (isDigit octet) (areDigits s) .0 h in (digit octet (k .0), k .1)
+first-digit octet s h = let k = both (isDigit octet) (areDigits s) h in (digit octet (k .0), k .1)
 
 four : (p c : List ℕ) → element p ≡ took (record { tag = 0x12; contents = c }) [] → length c ≡ 4 → areDigits c ≡ true → FourDigits p
 four p [] e l h = absurd (omega arith)
@@ -50,7 +51,7 @@ four p (w ∷ x ∷ y ∷ z ∷ v ∷ c) e l h = absurd (omega arith)
 pub are-four : (p : List ℕ) → password p ≡ true → FourDigits p
 are-four p h =
     inside isPassword (holding 0x12 p) h λ c q t.
-    let k = and-eq-true-iff (eqb (length c) 4) (areDigits c) .0 t in
+    let k = both (eqb (length c) 4) (areDigits c) t in
     held 0x12 p c q λ e. four p c e (eqb-true (length c) 4 (k .0)) (k .1)
 
 pub is-password : (p : List ℕ) → FourDigits p → password p ≡ true

@@ -83,11 +83,10 @@ ShownAreDigits =
     (t m b : List ℕ) (id : ℤ) (operation : Option ℕ) (p behind : List ℕ) → receive t m b .shown ≡ some (record { component = result id operation p; behind = behind })
     → operationOf id (outstanding t m) ≡ 17 → (takenOrReleased (receive t m b .code) ≡ true) × ((among id (outstanding t m) ≡ true) × FourDigits p)
 
--- and as C sees it: by the kind and the id that it gets, four digits stand at the place of the parameter
+-- and as C sees it: where a result of 17 is shown, four digits stand at the place of its parameter
 abbrev pub DigitsInC : Type 0
 DigitsInC =
-    (t m b : List ℕ) → receivedOf (length m) (receive t m b) .shown .kind ≡ resultTag
-    → operationOf (receivedOf (length m) (receive t m b) .shown .id) (outstanding t m) ≡ 17
+    (t m b : List ℕ) → receivedOf (length m) (receive t m b) .shown .kind ≡ resultTag → receivedOf (length m) (receive t m b) .shown .operation ≡ 17
     → FourDigits (standing m (receivedOf (length m) (receive t m b) .shown .parameter))
 
 -- "result problem 2"; in RELEASE COMPLETE nothing is shown
