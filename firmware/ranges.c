@@ -148,7 +148,7 @@ static void test_digit_read(uint8_t octet, int place)
                   r.shown.parameter.end == 19,
               "ranges", "a digit read");
     else
-        check(r.code == SMR_RELEASED_REJECT && r.shown.kind == 0 &&
+        check(r.code == SMR_RELEASED_REJECT && r.shown.kind == SMR_NOTHING &&
                   out[9] == SMR_PROBLEM_RESULT && out[11] == 2,
               "ranges", "no digit read");
 }

@@ -11,6 +11,7 @@ use mir.Syntax.{w8}
 use mir.Val.{SFits}
 use Rattle.octets.specs.Reader.{Answer, fault, sound, Taken, took, andThen, check, isEmpty, alone}
 use Rattle.octets.proofs.ReaderLaws.{through, passed}
+use Rattle.octets.proofs.TestLaws.{both}
 use Rattle.elements.specs.Element.{Element, element}
 use Rattle.codes.specs.Operations.{begins}
 use Rattle.codes.specs.Errors.{listed}
@@ -64,10 +65,6 @@ ussd-one p h = go (one p) h
     go (fault n) h = absurd (false≢true h)
     go (sound e) h = refl
 
-and-second : (a b : Bool) → a && b ≡ true → b ≡ true
-and-second true b h = h
-and-second false b h = absurd (false≢true h)
-
 -- the parameter of each operation that we begin
 invoke-parameter : (o : ℕ) (p : List ℕ) → suits InvokeWritten o p ≡ true → IsParameter p
 unfolding suits suitsInvokeWritten
@@ -77,7 +74,7 @@ invoke-parameter o p h = one-parameter p (go (eqb o 10) (leb 11 o && leb o 14) (
     go true b c h = h
     go false true c h = held-one 0x30 p _ h
     go false false true h = held-one 0x04 p isServiceCode h
-    go false false false h = ussd-one p (and-second (eqb o 59) (isUssd p) h)
+    go false false false h = ussd-one p (both (eqb o 59) (isUssd p) h .1)
 
 none-or : (p : List ℕ) (x : Bool) → (x ≡ true → isSound (one p) ≡ true) → isEmpty p || x ≡ true → IsParameter p
 unfolding parameter
@@ -97,7 +94,7 @@ result-parameter o p h = go (eqb o 18) (eqb o 60) h
     go : (a b : Bool) → cond a (password p) (cond b (noneOrUssd p) (eqb o 61 && isEmpty p)) ≡ true → IsParameter p
     go true b h = one-parameter p (held-one 0x12 p isPassword h)
     go false true h = none-or p (isUssd p) (ussd-one p) h
-    go false false h = no-parameter p (and-second (eqb o 61) (isEmpty p) h)
+    go false false h = no-parameter p (both (eqb o 61) (isEmpty p) h .1)
 
 -- a message to be sent: first octet and type, and behind them the Facility value of c
 record Laid (first type : ℕ) (message : List ℕ) (c : Component) : Type 0 where

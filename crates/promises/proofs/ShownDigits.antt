@@ -26,7 +26,7 @@ use Rattle.telephone.specs.Receive.{act, receive}
 use Rattle.telephone.specs.FromC.{receivedOf}
 use Rattle.telephone.proofs.Shown.{nothing-shown}
 use Rattle.telephone.proofs.Stands.{stands}
-use Rattle.promises.specs.ErrorLists.{outstanding, takenOrReleased}
+use Rattle.promises.specs.Reaches.{outstanding, takenOrReleased}
 use Rattle.promises.specs.Passwords.{FourDigits, ShownAreDigits, DigitsInC, OthersAreNotShown, DigitsAreShown}
 use Rattle.promises.proofs.FourDigits.{are-four, is-password, no-password}
 use Rattle.promises.proofs.JudgedWalk.{walk-result}

@@ -16,7 +16,7 @@ use Rattle.deciding.specs.Steps.{firstOctet, pickedEntry, stepFour, stepSix, fi
 use Rattle.deciding.proofs.StepLaws.{by-type, tested}
 use Rattle.telephone.specs.Receive.{verdictOf, act, receive}
 use Rattle.telephone.proofs.Shown.{nothing-shown, five-shows, except-shows}
-use Rattle.promises.specs.ErrorLists.{takenOrReleased}
+use Rattle.promises.specs.Reaches.{takenOrReleased}
 
 abbrev pub IsShown : Component → List ℕ → Decision → Type 0
 IsShown c behind d = shownBy d ≡ some (record { component = c; behind = behind })

@@ -10,7 +10,7 @@ use Rattle.octets.specs.Reader.{Taken}
 use Rattle.parameters.specs.Parameter.{Text}
 use Rattle.components.specs.Component.{invoke, result}
 use Rattle.promises.specs.LaterEdition.{LaterEdition, ShowsText}
-use Rattle.promises.specs.Worked.{zeros, fresh, buffer, w1Parameter, w1, w2}
+use Rattle.promises.specs.Worked.{zeros, ownWaits, fresh, buffer, w1Parameter, w1, w2}
 
 abbrev pub appended : List ℕ
 appended = 0x04 ∷ 0x01 ∷ 0x02 ∷ []
@@ -50,7 +50,7 @@ f59 = 0x8B ∷ 0x3A ∷ 0x12 ∷ 0xA2 ∷ 0x10 ∷ 0x02 ∷ 0x01 ∷ 0x01 ∷ 0x
 
 -- our value 0 waits for the answer to 59; the network's value 0 is open
 abbrev pub own59 : List ℕ
-own59 = 0x03 ∷ 0x01 ∷ 0x3B ∷ zeros 67
+own59 = ownWaits 59
 
 abbrev pub openTable : List ℕ
 openTable = zeros 35 ++ (0x01 ∷ zeros 34)

@@ -10,12 +10,12 @@ use Rattle.components.specs.Shows.{Shows}
 use Rattle.deciding.specs.Steps.{shown}
 use Rattle.telephone.specs.Receive.{receive}
 use Rattle.promises.specs.Reaches.{takenWith, releasedWith}
-use Rattle.promises.specs.Worked.{zeros, buffer, Answers}
+use Rattle.promises.specs.Worked.{ownWaits, buffer, Answers}
 use Rattle.promises.specs.Editions.{own59}
 
 -- our value 0 waits for the answer to eraseSS
 abbrev pub own11 : List ℕ
-own11 = 0x03 ∷ 0x01 ∷ 0x0B ∷ zeros 67
+own11 = ownWaits 11
 
 -- an error with this code, in FACILITY and in RELEASE COMPLETE
 abbrev pub errorWith : ℕ → List ℕ

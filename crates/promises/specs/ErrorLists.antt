@@ -3,30 +3,21 @@
 use Prim.Native.Nat.{ℕ}
 use mathlib.Core.Path.{_≡_}
 use mathlib.Core.List.{List}
-use mathlib.Core.Bool.{Bool, true, false, _||_}
+use mathlib.Core.Bool.{true, false}
 use mathlib.Core.Option.{none, some}
 use lib.IntN.{ℤ}
-use lib.Dec.{eqb}
 use Rattle.codes.specs.Errors.{listed, errorsOf, isIn}
 use Rattle.codes.specs.Problems.{errorProblem}
 use Rattle.components.specs.Component.{error}
-use Rattle.table.specs.Table.{Waiting, entryAt}
+use Rattle.table.specs.Table.{entryAt}
 use Rattle.judging.specs.StepSix.{among, operationOf, withoutOwn}
 use Rattle.deciding.specs.Steps.{pickedEntry, shown}
 use Rattle.telephone.specs.Receive.{receive}
-use Rattle.promises.specs.Reaches.{ReachesStepSix, ReachesInRelease, rejected, takenWith, releasedWith}
-
--- what we have outstanding in the message's transaction, as the table has it before
-abbrev pub outstanding : List ℕ → List ℕ → List Waiting
-outstanding t m = entryAt t (pickedEntry m) .own
+use Rattle.promises.specs.Reaches.{outstanding, takenOrReleased, ReachesStepSix, ReachesInRelease, rejected, takenWith, releasedWith}
 
 -- the list of the operation that is outstanding under this id
 abbrev pub itsErrors : List ℕ → List ℕ → ℤ → List ℕ
 itsErrors t m id = errorsOf (operationOf id (outstanding t m))
-
--- taken, or released by the network
-abbrev pub takenOrReleased : ℕ → Bool
-takenOrReleased verdict = eqb verdict 0 || eqb verdict 5
 
 -- an error that is shown was taken, or came with a release; its id was outstanding, and its code is in that list
 abbrev pub ShownIsInList : Type 0

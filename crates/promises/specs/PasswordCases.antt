@@ -12,15 +12,14 @@ use Rattle.telephone.specs.Outcome.{untouched}
 use Rattle.telephone.specs.Receive.{receive}
 use Rattle.telephone.specs.Calls as calls
 use Rattle.promises.specs.Reaches.{takenWith, releasedWith}
-use Rattle.promises.specs.Worked.{zeros, fresh, buffer, Answers}
+use Rattle.promises.specs.Worked.{peerWaits, ownWaits, fresh, buffer, Answers}
 
--- the network's value 0 waits for the answer to invoke 5, a getPassword
+-- a getPassword waits for our answer, and our registerPassword for its
 abbrev pub peer18 : List ℕ
-peer18 = zeros 35 ++ (0x05 ∷ 0x00 ∷ 0x00 ∷ 0x05 ∷ 0x12 ∷ []) ++ zeros 30
+peer18 = peerWaits 18
 
--- our value 0 waits for the answer to registerPassword
 abbrev pub own17 : List ℕ
-own17 = 0x03 ∷ 0x01 ∷ 0x11 ∷ zeros 67
+own17 = ownWaits 17
 
 abbrev pub spaces : List ℕ
 spaces = 0x12 ∷ 0x04 ∷ 0x20 ∷ 0x20 ∷ 0x20 ∷ 0x20 ∷ []

@@ -22,8 +22,7 @@ use Rattle.telephone.specs.Outcome.{Outcome, untouched}
 use Rattle.telephone.specs.Receive.{receive}
 use Rattle.telephone.specs.FromC.{receivedOf}
 use Rattle.telephone.specs.Calls as calls
-use Rattle.promises.specs.Reaches.{ReachesStepSix, ReachesInRelease, rejected, takenWith, releasedWith}
-use Rattle.promises.specs.ErrorLists.{outstanding, takenOrReleased}
+use Rattle.promises.specs.Reaches.{outstanding, takenOrReleased, ReachesStepSix, ReachesInRelease, rejected, takenWith, releasedWith}
 use Rattle.promises.specs.ReadBack.{Carries}
 
 abbrev pub Digit : ℕ → Type 0

@@ -2,10 +2,11 @@
 use Prim.Native.Nat.{ℕ, _≤_}
 use mathlib.Core.Path.{_≡_}
 use mathlib.Core.List.{List}
-use mathlib.Core.Bool.{true, false}
+use mathlib.Core.Bool.{Bool, true, false, _||_}
 use mathlib.Core.Option.{none, some}
 use lib.IntN.{ℤ}
 use lib.ListN.{length, getD, drop}
+use lib.Dec.{eqb}
 use Rattle.octets.specs.Reader.{took}
 use Rattle.octets.specs.Splice.{splice}
 use Rattle.components.specs.Component.{Component, reject}
@@ -14,9 +15,17 @@ use Rattle.components.specs.Shows.{Shows}
 use Rattle.components.specs.Written.{componentOctets}
 use Rattle.messages.specs.Layout.{discriminator, value, flag, registerType, facilityType, releaseType, releaseFacility}
 use Rattle.messages.specs.Scan.{required, firstTaken}
-use Rattle.table.specs.Table.{Entry, entryAt, closed, valid, withEntry}
+use Rattle.table.specs.Table.{Waiting, Entry, entryAt, closed, valid, withEntry}
 use Rattle.deciding.specs.Steps.{firstOctet, pickedEntry, replyFirst}
 use Rattle.telephone.specs.Outcome.{Outcome}
+
+-- what we have outstanding in the message's transaction, as the table has it before
+abbrev pub outstanding : List ℕ → List ℕ → List Waiting
+outstanding t m = entryAt t (pickedEntry m) .own
+
+-- taken, or released by the network: the verdicts that show a result or an error
+abbrev pub takenOrReleased : ℕ → Bool
+takenOrReleased verdict = eqb verdict 0 || eqb verdict 5
 
 -- 28 and 27, step 1, and step 2's value 7
 pub record Arrives (t m b : List ℕ) : Type 0 where

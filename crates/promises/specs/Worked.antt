@@ -21,9 +21,17 @@ zeros n = replicate n 0
 abbrev pub fresh : List ℕ
 fresh = zeros 70
 
--- the table after W1: the network's value 0 waits for the answer to invoke 5 of operation 60
+-- the network's value 0 waits for the answer to its invoke 5 of this operation
+abbrev pub peerWaits : ℕ → List ℕ
+peerWaits operation = zeros 35 ++ (0x05 ∷ 0x00 ∷ 0x00 ∷ 0x05 ∷ operation ∷ []) ++ zeros 30
+
+-- our value 0 waits for the answer to our invoke 1 of this operation
+abbrev pub ownWaits : ℕ → List ℕ
+ownWaits operation = 0x03 ∷ 0x01 ∷ operation ∷ zeros 67
+
+-- the table after W1
 abbrev pub afterW1 : List ℕ
-afterW1 = zeros 35 ++ (0x05 ∷ 0x00 ∷ 0x00 ∷ 0x05 ∷ 0x3C ∷ []) ++ zeros 30
+afterW1 = peerWaits 60
 
 abbrev pub buffer : List ℕ
 buffer = zeros 24
