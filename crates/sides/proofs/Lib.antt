@@ -1,0 +1,4 @@
+pub mod Numbers
+pub mod SideLaws
+pub mod Asked
+mod Steps
