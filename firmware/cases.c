@@ -1,5 +1,6 @@
 /* Runs the cases of a file: each call from its table, with what it must give. */
 #include "check.h"
+#include "image.h"
 #include "lent.h"
 #include "smrcholet.h"
 
@@ -7,36 +8,41 @@
 #include <stdlib.h>
 #include <string.h>
 
-enum { MOST = 70000, ENTRY = 5 };
+enum { MOST = 70000 };
 
 typedef struct {
     uint8_t octets[MOST];
     size_t length;
 } row;
 
+/* The open entries of each table, with what waits in them. */
 static const struct {
-    const char *name, *image;
+    const char *name, *entries;
 } tables[] = {
-    /* an entry each: its number (ours 0 to 6, the network's 7 to 13), its octets */
     {"fresh", ""},
-    {"w1", "7:050000053C"},
-    {"open", "7:0100000000"},
-    {"peer61", "7:050000053D"},
-    {"peer18", "7:0500000512"},
-    {"own59", "0:03013B0000"},
-    {"own17", "0:0301110000"},
-    {"own10", "0:03010A0000"},
-    {"own11", "0:03010B0000"},
-    {"own12", "0:03010C0000"},
-    {"own13", "0:03010D0000"},
-    {"own14", "0:03010E0000"},
-    {"ownopen", "0:0100000000"},
-    {"both17", "0:0701110712"},
-    {"other17", "0:0100000000 1:0301110000"},
-    {"full", "0:0100000000 1:0100000000 2:0100000000 3:0100000000 "
-             "4:0100000000 5:0100000000 6:0100000000"},
-    {"damaged", "7:0200000000"},
-    {"short", ""},
+    {"open", "n0"},
+    {"ownopen", "o0"},
+    {"w1", "n0 peers 5:60"},
+    {"peer18", "n0 peers 5:18"},
+    {"peer61", "n0 peers 5:61"},
+    {"own10", "o0 own 1:10"},
+    {"own11", "o0 own 1:11"},
+    {"own12", "o0 own 1:12"},
+    {"own13", "o0 own 1:13"},
+    {"own14", "o0 own 1:14"},
+    {"own17", "o0 own 1:17"},
+    {"own59", "o0 own 1:59"},
+    {"both17", "o0 own 1:17 peers 7:18"},
+    {"other17", "o0 o1 own 1:17"},
+    {"full", "o0 o1 o2 o3 o4 o5 o6"},
+    {"peers2", "n0 peers 5:60/6:18"},
+    {"peers3", "n0 peers 5:60/6:18/7:61"},
+    {"peers4", "n0 peers 5:60/6:18/7:61/8:60"},
+    {"owns2", "o0 own 1:59/2:17"},
+    {"owns3", "o0 own 1:17/2:59/3:11"},
+    {"owns4", "o0 own 1:17/2:59/3:11/4:10"},
+    {"eight", "o0 own 1:17/2:59/3:11/4:10 peers 5:60/6:18/7:61/8:60"},
+    {"apart", "o0 own 1:59 o1 own 2:17"},
 };
 
 static int digit(char c)
@@ -52,7 +58,7 @@ static void add(row *to, uint8_t octet, size_t times)
     for (size_t i = 0; i < times && to->length < MOST; i++) to->octets[to->length++] = octet;
 }
 
-/* Hex, zeros(N), text(N), any(N), none or empty, appended. */
+/* Hex with blanks or without, zeros(N), text(N), any(N), none or empty, appended. */
 static void read_octets(const char *word, row *to)
 {
     size_t n;
@@ -66,35 +72,63 @@ static void read_octets(const char *word, row *to)
         add(to, (uint8_t)(n > 129 ? n - 3 : n - 2), 1);
         add(to, 0x00, n > 129 ? n - 3 : n - 2);
     } else if (strcmp(word, "none") != 0 && strcmp(word, "empty") != 0) {
-        for (; digit(word[0]) >= 0 && digit(word[1]) >= 0; word += 2)
+        for (word += strspn(word, " "); digit(word[0]) >= 0 && digit(word[1]) >= 0;
+             word += 2 + strspn(word + 2, " "))
             add(to, (uint8_t)(digit(word[0]) * 16 + digit(word[1])), 1);
     }
 }
 
-static size_t read_table(const char *name, uint8_t *image)
+/* The image of one entry, all others closed: o0=HEX or n0=HEX, in one word or several. How
+ * many words it took. */
+static int read_image(char **words, row *table)
 {
-    memset(image, 0, SMR_TABLE);
-    for (size_t i = 0; i < sizeof tables / sizeof *tables; i++) {
-        if (strcmp(tables[i].name, name) != 0) continue;
-        for (const char *at = tables[i].image; *at != 0;) {
-            row entry = {.length = 0};
-            int k = atoi(at);
-            at = strchr(at, ':') + 1;
-            read_octets(at, &entry);
-            memcpy(image + ENTRY * k, entry.octets, ENTRY);
-            at += 2 * ENTRY + (at[2 * ENTRY] == ' ');
-        }
-        return strcmp(name, "short") == 0 ? SMR_TABLE - 1 : SMR_TABLE;
-    }
-    check(false, name, "no such table");
-    return 0;
+    static row image;
+    int taken = 1;
+    image.length = 0;
+    add(table, 0x00, SMR_TABLE);
+    read_octets(words[0] + strlen("o0="), &image);
+    while (image.length < ENTRY && words[taken] != NULL) read_octets(words[taken++], &image);
+    check(image.length == ENTRY, words[0], "no entry");
+    memcpy(table->octets + ENTRY * entry_at(words[0][0] == 'o', 0), image.octets, ENTRY);
+    return taken;
 }
+
+/* The table that the words name, and how many words that took. */
+static int read_lent_table(char **words, row *table)
+{
+    static char *damaged[] = {"n0=02", "0000000000000000", "0000000000000000", NULL};
+    table->length = 0;
+    if (strncmp(words[0], "o0=", 3) == 0 || strncmp(words[0], "n0=", 3) == 0)
+        return read_image(words, table);
+    if (strncmp(words[0], "zeros(", 6) == 0) {
+        read_octets(words[0], table);
+    } else if (strcmp(words[0], "short") == 0) {
+        add(table, 0x00, SMR_TABLE - 1);
+    } else if (strcmp(words[0], "damaged") == 0) {
+        read_image(damaged, table);
+    } else {
+        for (size_t i = 0; i < sizeof tables / sizeof *tables; i++) {
+            if (strcmp(tables[i].name, words[0]) != 0) continue;
+            table->length = SMR_TABLE;
+            read_table(tables[i].entries, table->octets);
+        }
+        check(table->length == SMR_TABLE, words[0], "no such table");
+    }
+    return 1;
+}
+
+/* What a call is lent. */
+typedef struct {
+    uint8_t *table, *message, *buffer;
+    size_t table_length, message_length, buffer_length;
+} loan;
 
 /* What a call gave, of either kind. */
 typedef struct {
     smr_received got;
     uint8_t value;
     size_t entry;
+    bool kept; /* the table is unchanged */
 } outcome;
 
 static bool same(const uint8_t *message, smr_span span, const char *octets)
@@ -116,13 +150,31 @@ static bool is_number(bool there, int number, const char *wanted)
     return strcmp(wanted, "None") == 0 ? !there : there && number == atoi(wanted);
 }
 
-static bool holds(const char *fact, const char *wanted, const outcome *o, const uint8_t *message,
-                  const uint8_t *buffer, const uint8_t *table)
+static bool is_word(bool holds, const char *wanted)
+{
+    return strcmp(wanted, holds ? "True" : "False") == 0;
+}
+
+/* The octets of one side of an entry are those of this list. */
+static bool same_side(const uint8_t *octets, const char *list)
+{
+    uint8_t wanted[SIDE];
+    side waiting = read_side(list);
+    put_side(&waiting, wanted);
+    return memcmp(octets, wanted, SIDE) == 0;
+}
+
+static bool holds(const char *fact, const char *wanted, const outcome *o, const loan *l)
 {
     const smr_received *r = &o->got;
-    if (strcmp(fact, "reply") == 0) return same_octets(buffer, r->written, wanted);
+    const uint8_t *message = l->message, *image = l->table + ENTRY * o->entry;
+    if (strcmp(fact, "reply") == 0) return same_octets(l->buffer, r->written, wanted);
     if (strcmp(fact, "length") == 0) return r->written == (size_t)atoi(wanted);
-    if (strcmp(fact, "entry") == 0) return same_octets(table + ENTRY * o->entry, ENTRY, wanted);
+    if (strcmp(fact, "entry") == 0) return same_octets(image, ENTRY, wanted);
+    if (strcmp(fact, "open") == 0) return is_word(image[0] != 0, wanted);
+    if (strcmp(fact, "own") == 0) return same_side(image + 1, wanted);
+    if (strcmp(fact, "peers") == 0) return same_side(image + 1 + SIDE, wanted);
+    if (strcmp(fact, "kept") == 0) return is_word(o->kept, wanted);
     if (strcmp(fact, "value") == 0) return o->value == atoi(wanted);
     if (strcmp(fact, "id") == 0) return is_number(r->shown.has_id, r->shown.id, wanted);
     if (strcmp(fact, "linked") == 0) return is_number(r->shown.has_linked, r->shown.linked, wanted);
@@ -135,7 +187,9 @@ static bool holds(const char *fact, const char *wanted, const outcome *o, const 
     if (strcmp(fact, "scheme") == 0)
         return r->text.is_there && same_octets(&r->text.scheme, 1, wanted);
     if (strcmp(fact, "string") == 0)
-        return r->text.is_there && same(message, r->text.string, wanted);
+        return strcmp(wanted, "none") == 0
+                   ? !r->text.is_there
+                   : r->text.is_there && same(message, r->text.string, wanted);
     if (strcmp(fact, "tail") == 0)
         return r->text.is_there && r->text.tail.start == r->text.string.end &&
                same(message, r->text.tail, wanted);
@@ -152,37 +206,36 @@ static bool holds(const char *fact, const char *wanted, const outcome *o, const 
     return false;
 }
 
-/* The call that the words name, from lent octets. */
-static outcome run(char **words, int count, uint8_t *table, size_t table_length, uint8_t *message,
-                   size_t message_length, uint8_t *buffer, size_t buffer_length)
+/* The call of this name, with its numbers. */
+static outcome run(const char *call, const int *n, const loan *l)
 {
     outcome o;
-    smr_called c = {0, 0, 0};
-    int n[4] = {0, 0, 0, 0};
-    for (int i = 0; i < count && i < 4; i++) n[i] = atoi(words[i + 2]);
+    smr_called c;
     memset(&o, 0, sizeof o);
-    if (strcmp(words[0], "receive") == 0) {
-        o.got = smr_receive(table, table_length, message, message_length, buffer, buffer_length);
-        if (message_length > 0)
-            o.entry = (size_t)((message[0] & 0x80 ? 0 : 7) + (message[0] >> 4 & 7)) % 14;
+    if (strcmp(call, "receive") == 0) {
+        o.got = smr_receive(l->table, l->table_length, l->message, l->message_length, l->buffer,
+                            l->buffer_length);
+        if (l->message_length > 0)
+            o.entry = entry_at(SMR_FLAG(l->message[0]), SMR_VALUE(l->message[0])) % ENTRIES;
         return o;
     }
-    o.entry = (size_t)(n[0] == 1 ? n[1] : 7 + n[1]) % 14;
-    if (strcmp(words[0], "begin") == 0) {
-        c = smr_begin(table, table_length, (uint8_t)n[0], (int8_t)n[1], message, message_length,
-                      buffer, buffer_length);
+    o.entry = entry_at((uint8_t)n[0], (uint8_t)n[1]) % ENTRIES;
+    if (strcmp(call, "begin") == 0) {
+        c = smr_begin(l->table, l->table_length, (uint8_t)n[0], (int8_t)n[1], l->message,
+                      l->message_length, l->buffer, l->buffer_length);
         o.entry = c.value;
-    } else if (strcmp(words[0], "invoke") == 0) {
-        c = smr_invoke(table, table_length, (uint8_t)n[0], (uint8_t)n[1], (uint8_t)n[2],
-                       (int8_t)n[3], message, message_length, buffer, buffer_length);
-    } else if (strcmp(words[0], "result") == 0) {
-        c = smr_result(table, table_length, (uint8_t)n[0], (uint8_t)n[1], (int8_t)n[2], message,
-                       message_length, buffer, buffer_length);
-    } else if (strcmp(words[0], "error") == 0) {
-        c = smr_error(table, table_length, (uint8_t)n[0], (uint8_t)n[1], (int8_t)n[2],
-                      (uint8_t)n[3], message, message_length, buffer, buffer_length);
+    } else if (strcmp(call, "invoke") == 0) {
+        c = smr_invoke(l->table, l->table_length, (uint8_t)n[0], (uint8_t)n[1], (uint8_t)n[2],
+                       (int8_t)n[3], l->message, l->message_length, l->buffer, l->buffer_length);
+    } else if (strcmp(call, "result") == 0) {
+        c = smr_result(l->table, l->table_length, (uint8_t)n[0], (uint8_t)n[1], (int8_t)n[2],
+                       l->message, l->message_length, l->buffer, l->buffer_length);
+    } else if (strcmp(call, "error") == 0) {
+        c = smr_error(l->table, l->table_length, (uint8_t)n[0], (uint8_t)n[1], (int8_t)n[2],
+                      (uint8_t)n[3], l->message, l->message_length, l->buffer, l->buffer_length);
     } else {
-        c = smr_release(table, table_length, (uint8_t)n[0], (uint8_t)n[1], buffer, buffer_length);
+        c = smr_release(l->table, l->table_length, (uint8_t)n[0], (uint8_t)n[1], l->buffer,
+                        l->buffer_length);
     }
     o.got.code = c.code;
     o.got.written = c.written;
@@ -198,57 +251,70 @@ static int numbers_of(const char *call)
 }
 
 /* What every call leaves alone: octets behind what is written, other entries,
- * and all of it where nothing may be sent or changed. */
+ * and all of it where nothing may be sent or changed. And no call damages a table. */
 static void check_rest(const char *name, const outcome *o, bool received, const uint8_t *old,
-                       const uint8_t *table, size_t table_length, const uint8_t *buffer,
-                       size_t buffer_length)
+                       const loan *l)
 {
-    bool clean = o->got.written <= buffer_length, others = true, all;
-    for (size_t i = o->got.written; clean && i < buffer_length; i++) clean = buffer[i] == 0xEE;
-    check(clean, name, "octets behind the message");
-    all = table_length == 0 || memcmp(old, table, table_length) == 0;
-    for (size_t i = 0; i < table_length; i++)
-        others = others && (i / ENTRY == o->entry || old[i] == table[i]);
+    bool others = true;
+    check(is_marked(l->buffer, o->got.written, l->buffer_length), name,
+          "octets behind the message");
+    for (size_t i = 0; i < l->table_length; i++)
+        others = others && (i / ENTRY == o->entry || old[i] == l->table[i]);
     check(others, name, "another entry");
     if (o->got.code >= 20 || (received && (o->got.code == 1 || o->got.code >= 6)))
-        check(all && o->got.written == 0 && o->got.shown.kind == SMR_NOTHING, name,
+        check(o->kept && o->got.written == 0 && o->got.shown.kind == SMR_NOTHING, name,
               "nothing may change");
+    if (o->got.code != SMR_DAMAGED)
+        check(l->table_length == SMR_TABLE && fault_of(l->table) == SOUND, name, "a sound table");
+}
+
+/* Each fact behind the code, up to its comma. */
+static void check_facts(const char *name, char *facts, const outcome *o, const loan *l)
+{
+    check(o->got.code == atoi(facts), name, "the code");
+    for (char *f = strchr(facts, ','); f != NULL;) {
+        char *fact = f + 1 + strspn(f + 1, " "), *wanted = strchr(fact, '=');
+        f = strchr(fact, ',');
+        if (f != NULL) *f = 0;
+        *wanted++ = 0;
+        check(holds(fact, wanted, o, l), name, fact);
+    }
+}
+
+/* Octets lent, with what they are. */
+static uint8_t *lend_row(int which, const row *of, int before)
+{
+    uint8_t *lent = lend(which, of->length, before);
+    memcpy(lent, of->octets, of->length);
+    return lent;
 }
 
 /* One case; with `before` the guard stands before what is lent. */
 static void run_case(char *line, int before)
 {
-    static row message;
-    char *words[64] = {0}, *facts = strstr(line, "->"), *name = strtok(line, " ");
-    uint8_t old[SMR_TABLE];
-    size_t buffer_length = 300;
-    int count = 0, given;
+    static row message, old;
+    char *words[64] = {0}, *facts = strstr(line, "-> ") + strlen("-> "), *name = strtok(line, " ");
+    loan l = {.buffer_length = 300};
+    int count = 0, at, n[4] = {0, 0, 0, 0};
     for (char *w = strtok(NULL, " "); w != NULL && strcmp(w, "->") != 0; w = strtok(NULL, " ")) {
-        if (sscanf(w, "buf=%zu", &buffer_length) == 1) continue;
-        if (count < 64) words[count++] = w;
+        if (sscanf(w, "buf=%zu", &l.buffer_length) == 1) continue;
+        if (count < 63) words[count++] = w;
     }
-    given = numbers_of(words[0]);
+    at = 1 + read_lent_table(words + 1, &old);
+    for (int i = 0; i < numbers_of(words[0]) && at < count; i++) n[i] = atoi(words[at++]);
     message.length = 0;
-    for (int i = 2 + given; i < count; i++) read_octets(words[i], &message);
+    while (at < count) read_octets(words[at++], &message);
 
-    size_t table_length = read_table(words[1], old);
-    uint8_t *table = lend(0, table_length, before), *m = lend(1, message.length, before);
-    uint8_t *buffer = lend(2, buffer_length, before);
-    memcpy(table, old, table_length);
-    memcpy(m, message.octets, message.length);
-    memset(buffer, 0xEE, buffer_length);
-    outcome o = run(words, given, table, table_length, m, message.length, buffer, buffer_length);
-
-    facts += strlen("-> ");
-    check(o.got.code == atoi(facts), name, "the code");
-    for (char *f = strtok(strchr(facts, ',') ? strchr(facts, ',') + 1 : facts + strlen(facts), ", ");
-         f != NULL; f = strtok(NULL, ", ")) {
-        char *wanted = strchr(f, '=');
-        *wanted++ = 0;
-        check(holds(f, wanted, &o, m, buffer, table), name, f);
-    }
-    check_rest(name, &o, strcmp(words[0], "receive") == 0, old, table, table_length, buffer,
-               buffer_length);
+    l.table = lend_row(0, &old, before);
+    l.table_length = old.length;
+    l.message = lend_row(1, &message, before);
+    l.message_length = message.length;
+    l.buffer = lend(2, l.buffer_length, before);
+    memset(l.buffer, MARK, l.buffer_length);
+    outcome o = run(words[0], n, &l);
+    o.kept = memcmp(old.octets, l.table, old.length) == 0;
+    check_facts(name, facts, &o, &l);
+    check_rest(name, &o, strcmp(words[0], "receive") == 0, old.octets, &l);
 }
 
 int main(int argc, char **argv)

@@ -1,6 +1,7 @@
 /* How deep each call goes: it runs on a painted stack, and the paint that is gone
  * is counted. Prints a line for each, in octets. */
 #define _GNU_SOURCE
+#include "image.h"
 #include "smrcholet.h"
 
 #include <stdio.h>
@@ -36,16 +37,11 @@ static void error(void) { smr_error(table, SMR_TABLE, 0, 0, 5, 1, guidance, size
 static void release(void) { smr_release(table, SMR_TABLE, 0, 0, buffer, sizeof buffer); }
 static void cells(void) { smr_cells(0x0F, string, sizeof string, characters, SMR_CHARACTERS, lines, sizeof lines); }
 
-/* The octets that a call takes of a fresh stack. */
-static size_t depth(void (*call)(void), const char *image)
+/* The octets that a call takes of a fresh stack, with these entries in the table. */
+static size_t depth(void (*call)(void), const char *entries)
 {
     size_t clean = 0;
-    memset(table, 0, sizeof table);
-    for (int k = 0; image[2 * k] != 0; k++) {
-        unsigned octet;
-        sscanf(image + 2 * k, "%2x", &octet);
-        table[k < 5 ? k : 30 + k] = (uint8_t)octet;
-    }
+    read_table(entries, table);
     memset(stack, PAINT, STACK);
     getcontext(&there);
     there.uc_stack.ss_sp = stack;
@@ -76,8 +72,9 @@ static void print(const char *name, size_t octets)
 
 int main(void)
 {
-    /* our entry 0 with invoke 1 of 59, then the network's with invoke 5 of 60 */
-    const char *open = "03013B0000050000053C", *fresh = "", *peer = "0000000000050000053C";
+    /* what is answered waits first, so that all others move up; what we ask has one place left */
+    const char *fresh = "", *open = "o0 own 1:59/2:17/3:11/4:10 peers 5:60/6:18/7:61/8:60",
+               *peer = "n0 own 2:17/3:11/4:10 peers 5:60/6:18/7:61/8:60";
     size_t none, deepest = 0;
     struct {
         const uint8_t *octets;

@@ -4,17 +4,6 @@
 
 #include <string.h>
 
-enum { MARK = 0xEE };
-
-/* No octet from `from` on has changed since it was marked. */
-static bool is_marked(const void *octets, size_t from, size_t length)
-{
-    const uint8_t *at = octets;
-    for (size_t i = from; i < length; i++)
-        if (at[i] != MARK) return false;
-    return from <= length;
-}
-
 laid lay(uint8_t scheme, const uint8_t *string, size_t length, size_t text_length,
          size_t lines_length, int before)
 {

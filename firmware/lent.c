@@ -29,3 +29,11 @@ uint8_t *lend(int which, size_t length, int before)
     }
     return before ? rooms[which] : rooms[which] + inside - length;
 }
+
+bool is_marked(const void *octets, size_t from, size_t length)
+{
+    const uint8_t *at = octets;
+    for (size_t i = from; i < length; i++)
+        if (at[i] != MARK) return false;
+    return from <= length;
+}

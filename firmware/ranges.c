@@ -1,14 +1,11 @@
 /* What is decided by ranges of a number, at each of its 256 values. The papers' lists
- * stand here number by number. */
+ * stand number by number, here and in lists.c. */
 #include "check.h"
+#include "lists.h"
 #include "smrcholet.h"
 
 #include <string.h>
 
-static const uint8_t codes[] = {1,  9,  10, 11, 12, 13, 16, 17, 18, 19, 20,
-                                21, 27, 34, 35, 36, 37, 38, 43, 71, 72};
-static const uint8_t begun[] = {10, 11, 12, 13, 14, 17, 59};
-static const uint8_t served[] = {18, 38, 60, 61};
 /* "Refused tags: 00, and low five bits all ones." */
 static const uint8_t refused[] = {0x00, 0x1F, 0x3F, 0x5F, 0x7F, 0x9F, 0xBF, 0xDF, 0xFF};
 /* "each octet 30 to 39 hex" */
@@ -49,7 +46,7 @@ static void test_code(uint8_t code)
     const uint8_t sent[] = {0x8B, 0x3A, 0x08, 0xA3, 0x06, 0x02, 0x01, 0x05, 0x02, 0x01, code};
     menu_waits();
     smr_called c = smr_error(table, sizeof table, 0, 0, 5, code, NULL, 0, out, sizeof out);
-    check_sent(c, memchr(codes, code, sizeof codes), sent, sizeof sent, SMR_NO_OPERATION, "a code");
+    check_sent(c, is_listed(code), sent, sizeof sent, SMR_NO_OPERATION, "a code");
 }
 
 /* A tag of a parameter that we write, and of one that is read. */
@@ -81,9 +78,8 @@ static void test_begun(uint8_t operation)
     memset(table, 0, sizeof table);
     memset(before, 0, sizeof before);
     smr_called c = smr_begin(table, sizeof table, operation, 1, NULL, 0, out, sizeof out);
-    bool listed = memchr(begun, operation, sizeof begun);
-    check(c.code == (listed ? SMR_PARAMETER : SMR_NO_OPERATION) && is_unchanged(), "ranges",
-          "an operation begun");
+    check(c.code == (is_begun(operation) ? SMR_PARAMETER : SMR_NO_OPERATION) && is_unchanged(),
+          "ranges", "an operation begun");
 }
 
 /* An operation that comes, without a parameter: 38 alone goes without. */
@@ -93,7 +89,7 @@ static void test_served(uint8_t operation)
                               0x02, 0x01, 0x05, 0x02, 0x01, operation};
     memset(table, 0, sizeof table);
     smr_received r = receive(invoke, sizeof invoke);
-    uint8_t problem = memchr(served, operation, sizeof served) ? 2 : 1;
+    uint8_t problem = is_served(operation) ? 2 : 1;
     if (operation == 38)
         check(r.code == SMR_TAKEN && r.shown.operation == 38, "ranges", "38 served");
     else

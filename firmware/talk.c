@@ -1,8 +1,13 @@
 /* Conversations: the table goes on from call to call, as in the modem. */
+#include "talk.h"
+
 #include "chance.h"
 #include "check.h"
+#include "image.h"
 #include "lent.h"
+#include "lists.h"
 #include "smrcholet.h"
+#include "spoken.h"
 
 #include <stdio.h>
 #include <string.h>
@@ -56,62 +61,44 @@ static void test_values(void)
     check(c.code == 0 && c.value == 3, "values", "taken again");
 }
 
-/* The errors that each operation may return, in the order of its list, and a parameter
- * for it; the codes of the whole table. */
-static const struct {
-    uint8_t operation, errors[16];
-    size_t length;
-    uint8_t parameter[8];
-} operations[] = {
-    {10, {34, 35, 36, 10, 11, 13, 16, 17, 20}, 2, {0x05, 0x00}},
-    {11, {34, 35, 36, 10, 11, 13, 16, 17}, 5, {0x30, 0x03, 0x04, 0x01, 0x21}},
-    {12, {34, 35, 36, 10, 11, 13, 16, 17, 19, 20, 38, 43}, 5, {0x30, 0x03, 0x04, 0x01, 0x21}},
-    {13, {34, 35, 36, 10, 11, 13, 16, 17, 19, 38, 43}, 5, {0x30, 0x03, 0x04, 0x01, 0x21}},
-    {14, {34, 35, 36, 10, 11, 13, 16, 18}, 5, {0x30, 0x03, 0x04, 0x01, 0x21}},
-    {17, {34, 35, 36, 13, 19, 37, 38, 43}, 3, {0x04, 0x01, 0x92}},
-    {59, {34, 35, 36, 71, 13}, 8, {0x30, 0x06, 0x04, 0x01, 0x0F, 0x04, 0x01, 0x41}},
-};
-static const uint8_t codes[] = {1,  9,  10, 11, 12, 13, 16, 17, 18, 19, 20,
-                                21, 27, 34, 35, 36, 37, 38, 43, 71, 72};
-
 /* We begin an operation, and this code comes back as its error: in FACILITY, or with a
  * release. The table and the reply are left as they became. */
-static smr_received answer_with(size_t k, bool end, uint8_t code, uint8_t *table, uint8_t *reply)
+static smr_received answer_with(uint8_t operation, uint8_t type, uint8_t code, uint8_t *table,
+                                uint8_t *reply)
 {
     uint8_t out[SMR_MESSAGE];
-    uint8_t error[] = {0x8B, 0x2A, 0x1C, 0x08, 0xA3, 0x06, 0x02, 0x01, 0x80, 0x02, 0x01, code};
+    spoken p = asked(operation), error = a_message(1, 0, type, an_error(-128, code, none));
     memset(table, 0, SMR_TABLE);
-    smr_called c = smr_begin(table, SMR_TABLE, operations[k].operation, -128,
-                             operations[k].parameter, operations[k].length, out, sizeof out);
+    smr_called c =
+        smr_begin(table, SMR_TABLE, operation, -128, p.octets, p.length, out, sizeof out);
     if (c.code != 0) check(false, "errors", "begun");
-    if (end) return smr_receive(table, SMR_TABLE, error, sizeof error, reply, SMR_REPLY);
-    error[1] = 0x8B; /* the same without its 1C */
-    error[2] = 0x3A;
-    return smr_receive(table, SMR_TABLE, error + 1, sizeof error - 1, reply, SMR_REPLY);
+    return smr_receive(table, SMR_TABLE, error.octets, error.length, reply, SMR_REPLY);
 }
 
 /* Each operation, each code: taken and shown if its list has it, else refused. */
 static void test_errors(void)
 {
-    static const uint8_t none[SMR_TABLE];
+    static const uint8_t closed[SMR_TABLE];
     uint8_t table[SMR_TABLE], reply[SMR_REPLY];
-    for (size_t k = 0; k < sizeof operations / sizeof *operations; k++) {
+    for (size_t k = 0; k < BEGUN; k++) {
         bool taken = true, refused = true, ended = true;
         for (int code = 0; code < 256; code++) {
-            bool fits = code != 0 && memchr(operations[k].errors, code, sizeof operations[k].errors);
-            uint8_t problem = memchr(codes, code, sizeof codes) ? 3 : 2;
-            smr_received r = answer_with(k, false, (uint8_t)code, table, reply);
+            bool fits = may_return(begun[k], (uint8_t)code);
+            uint8_t problem = is_listed((uint8_t)code) ? 3 : 2;
+            smr_received r = answer_with(begun[k], FACILITY, (uint8_t)code, table, reply);
             if (fits)
                 taken = taken && r.code == SMR_TAKEN && r.shown.kind == SMR_ERROR &&
-                        r.shown.code == code && r.shown.id == -128 && r.written == 0 && table[0] == 1;
+                        r.shown.code == code && r.shown.id == -128 && r.written == 0 &&
+                        table[0] == 1;
             else
                 refused = refused && r.code == SMR_RELEASED_REJECT && r.written == 12 &&
                           reply[9] == SMR_PROBLEM_ERROR && reply[11] == problem &&
-                          r.shown.kind == SMR_NOTHING && memcmp(table, none, sizeof none) == 0;
-            r = answer_with(k, true, (uint8_t)code, table, reply);
+                          r.shown.kind == SMR_NOTHING &&
+                          memcmp(table, closed, sizeof closed) == 0;
+            r = answer_with(begun[k], RELEASE_COMPLETE, (uint8_t)code, table, reply);
             ended = ended && r.code == SMR_RELEASED && r.written == 0 &&
                     r.shown.kind == (fits ? SMR_ERROR : SMR_NOTHING) &&
-                    memcmp(table, none, sizeof none) == 0;
+                    memcmp(table, closed, sizeof closed) == 0;
         }
         check(taken, "errors", "of its list: taken");
         check(refused, "errors", "of no list: refused");
@@ -168,30 +155,28 @@ static size_t disturb(uint8_t *to)
 /* Noise from lent rooms whose guards would fault: the table never breaks. */
 static void test_noise(void)
 {
+    static const char eight[] = "o0 own 1:59/2:17/3:11/4:10 peers 5:60/6:18/8:61/9:60 "
+                                "n0 own 1:10/2:59 peers 6:61/8:18/9:60";
     static uint8_t made[300];
     unsigned counts[8] = {0};
     bool sound = true, kept = true;
     for (int i = 0; i < 300000; i++) {
         int before = i & 1;
         uint8_t *table = lend(0, SMR_TABLE, before), *reply = lend(2, SMR_REPLY, before);
-        if (i % 100 < 2) {
-            /* fresh, but for an invoke of ours */
-            memset(table, 0, SMR_TABLE);
-            memcpy(table, (uint8_t[]){0x03, 0x01, 0x3B}, 3);
-        }
+        if (i % 100 < 2) read_table(i % 200 < 2 ? "o0 own 1:59" : eight, table);
         size_t n = disturb(made);
         uint8_t *message = lend(1, n, before);
         memcpy(message, made, n);
-        memset(reply, 0xEE, SMR_REPLY);
+        memset(reply, MARK, SMR_REPLY);
         smr_received r = smr_receive(table, SMR_TABLE, message, n, reply, SMR_REPLY);
         sound = sound && r.code < 8 && r.shown.parameter.end <= n && r.text.tail.end <= n &&
-                r.cause.contents.end <= n;
-        for (size_t k = r.written; k < SMR_REPLY; k++) kept = kept && reply[k] == 0xEE;
+                r.cause.contents.end <= n && fault_of(table) == SOUND;
+        kept = kept && is_marked(reply, r.written, SMR_REPLY);
         if (r.code < 8) counts[r.code]++;
         /* both guards look at one table */
         memcpy(lend(0, SMR_TABLE, !before), table, SMR_TABLE);
     }
-    check(sound, "noise", "a verdict and parts within");
+    check(sound, "noise", "a verdict, parts within, a sound table");
     check(kept, "noise", "octets behind the reply");
     for (int k = 0; k < 8; k++) check(counts[k] >= 100, "noise", "each verdict a hundred times");
 }
@@ -203,5 +188,8 @@ int main(void)
     test_errors();
     test_nothing();
     test_noise();
+    test_four();
+    test_wander();
+    test_damage();
     return checks_done();
 }

@@ -1,9 +1,10 @@
 /* Smrcholet: supplementary service messages, read, written and kept in order.
  *
  * Every call is safe with any octets and any lengths; NULL is allowed where the
- * length is 0. There is no heap and no state but the table that you lend: 70
- * octets, all zero at the start, handed to each call but smr_cells and never
- * shared by two calls at once. No two of the slices of one call may overlap.
+ * length is 0. There is no heap and no state but the table that you lend:
+ * SMR_TABLE octets, all zero at the start, handed to each call but smr_cells
+ * and never shared by two calls at once. No two of the slices of one call may
+ * overlap.
  *
  * smr_cells is in libcells.a, the other calls are in libtelephone.a; neither
  * archive needs the other.
@@ -19,8 +20,12 @@
 extern "C" {
 #endif
 
-/* The length of the table, and the room that every reply finds. */
-#define SMR_TABLE 70
+/* The length of the table: fourteen entries of seventeen octets, for seven
+ * transactions that we begin and seven that the network begins. In each up to
+ * four invokes of ours and four of the peer's may wait for their answers. All
+ * octets are zero at the start; docs/TABLE.md has the layout. */
+#define SMR_TABLE 238
+/* The room that every reply finds. */
 #define SMR_REPLY 12
 /* No message that is sent is longer. */
 #define SMR_MESSAGE 255
@@ -45,12 +50,12 @@ extern "C" {
 #define SMR_NO_OPERATION 20   /* operation or error code not listed */
 #define SMR_NO_VALUE 21       /* begin: all our values are open */
 #define SMR_NOT_OPEN 22       /* no open transaction of this flag and value */
-#define SMR_OUTSTANDING 23    /* invoke: ours still waits for its answer */
+#define SMR_OUTSTANDING 23    /* invoke: four of ours wait or one has this id */
 #define SMR_NO_INVOKE 24      /* result, error: no such peer invoke waits */
 #define SMR_PARAMETER 25      /* not the parameter of the table below */
 #define SMR_LONG_MESSAGE 26   /* the message would pass 255 octets */
 #define SMR_SHORT_BUFFER 27   /* the buffer is too short */
-#define SMR_DAMAGED 28        /* the table is damaged, or not 70 octets */
+#define SMR_DAMAGED 28        /* the table is damaged, or not SMR_TABLE long */
 #define SMR_OTHER_SCHEME 40   /* cells: the coding scheme is not 0F */
 #define SMR_SHORT_TEXT 41     /* cells: text or lines too short */
 
@@ -180,7 +185,11 @@ typedef struct {
     size_t lines;      /* written to lines, two octets each */
 } smr_laid;
 
-/* A message came in. The reply buffer needs SMR_REPLY octets. */
+/* A message came in. The reply buffer needs SMR_REPLY octets. Up to four of the
+ * peer's invokes may wait in a transaction, each under an id of its own. One
+ * with the id of another that waits gets invoke problem 0, any that comes while
+ * four wait gets problem 3: verdict 3, and the transaction is over with all
+ * that waits in it. */
 smr_received smr_receive(uint8_t *table, size_t table_length,
                          const uint8_t *message, size_t message_length,
                          uint8_t *reply, size_t reply_length);
@@ -194,9 +203,10 @@ smr_received smr_receive(uint8_t *table, size_t table_length,
 #define SMR_VALUE(first) ((uint8_t)((uint8_t)(first) >> 4 & 7))
 
 /* A transaction stays open after a result or error, sent or received. It is
- * over with the verdicts 2 to 5 and after smr_release. Ours to release is one
- * that we began, once our invoke was answered with verdict 0 and we have no
- * more to ask; and one that the network began with 38, which has no answer. */
+ * over with the verdicts 2 to 5 and after smr_release, whatever waits in it.
+ * Ours to release is one that we began, once all that we asked was answered
+ * with verdict 0 and we have no more to ask; and one that the network began
+ * with 38, which has no answer. */
 
 /* Begins a transaction: REGISTER with an Invoke. */
 smr_called smr_begin(uint8_t *table, size_t table_length,
@@ -204,20 +214,22 @@ smr_called smr_begin(uint8_t *table, size_t table_length,
                      const uint8_t *parameter, size_t parameter_length,
                      uint8_t *buffer, size_t buffer_length);
 
-/* Another Invoke within an open transaction. */
+/* Another Invoke within an open transaction. Up to four of ours may wait in it,
+ * each under an id of its own, whatever ids the peer's have. */
 smr_called smr_invoke(uint8_t *table, size_t table_length,
                       uint8_t flag, uint8_t value,
                       uint8_t operation, int8_t id,
                       const uint8_t *parameter, size_t parameter_length,
                       uint8_t *buffer, size_t buffer_length);
 
-/* Answers the peer's invoke with this id by a Return result. */
+/* Answers the peer's invoke with this id by a Return result. Those that wait
+ * may be answered in any order. */
 smr_called smr_result(uint8_t *table, size_t table_length,
                       uint8_t flag, uint8_t value, int8_t id,
                       const uint8_t *parameter, size_t parameter_length,
                       uint8_t *buffer, size_t buffer_length);
 
-/* Answers the peer's invoke with this id by a Return error. */
+/* Answers the peer's invoke with this id by a Return error, likewise. */
 smr_called smr_error(uint8_t *table, size_t table_length,
                      uint8_t flag, uint8_t value, int8_t id, uint8_t code,
                      const uint8_t *parameter, size_t parameter_length,

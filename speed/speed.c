@@ -20,19 +20,23 @@
 
 enum { RUNS = 40000, CALLS = 200, MENU = 5, QUESTION = 1 };
 
+/* An entry: its state, then four places for what we asked and four for what the peer did,
+ * an id and an operation each. */
+enum { OWN = 1, PEERS = 9, ENTRY = 17 };
+
 /* A message, or one of our own calls, and the first entry of the table before it. */
 typedef struct {
     const char *name, *function;
     uint8_t kind, first, type, scheme;
     size_t string, tail;
-    uint8_t entry[5];
+    uint8_t entry[ENTRY];
 } step;
 
-#define FRESH {0, 0, 0, 0, 0}
-#define ASKED {3, QUESTION, 59, 0, 0}
-#define WAITS {7, QUESTION, 59, MENU, 60}
-#define REGISTERS {3, QUESTION, 17, 0, 0}
-#define WAITS_FOR_PASSWORD {7, QUESTION, 17, MENU, 18}
+#define FRESH {0}
+#define ASKED {3, [OWN] = QUESTION, 59}
+#define WAITS {7, [OWN] = QUESTION, 59, [PEERS] = MENU, 60}
+#define REGISTERS {3, [OWN] = QUESTION, 17}
+#define WAITS_FOR_PASSWORD {7, [OWN] = QUESTION, 17, [PEERS] = MENU, 18}
 
 static const step steps[] = {
     /* a network begins with a menu */
@@ -104,7 +108,7 @@ static void make_message(const step *s)
     } else if (s->kind == SMR_RESULT) {
         if (s->string > 0) make_text(s);
         else put(sizeof digits, digits);
-        put(3, (uint8_t[]){0x02, 0x01, s->entry[2]});
+        put(3, (uint8_t[]){0x02, 0x01, s->entry[OWN + 1]});
         wrap(0x30);
         put(3, (uint8_t[]){0x02, 0x01, QUESTION});
     } else {
@@ -220,7 +224,7 @@ int main(int argc, char **argv)
     if (s->kind != SMR_NOTHING) make_message(s);
     else if (s->string > 0) ours = cells, length = s->string, memset(message, 0x41, length);
     else if (strcmp(s->name, "begin") == 0) ours = begin;
-    else ours = s->entry[4] == 18 ? password : result;
+    else ours = s->entry[PEERS + 1] == 18 ? password : result;
 #ifdef OSMO
     if (s->kind != SMR_NOTHING) {
         word = "can't";

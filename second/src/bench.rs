@@ -69,7 +69,7 @@ pub fn answers(input: &[u8]) -> Vec<u8> {
 }
 
 impl Default for Bench {
-    /// "The table starts all zero (70 octets)."
+    /// "the table starts with 238 zeros"
     fn default() -> Bench {
         Bench {
             table: vec![0; table::LENGTH],

@@ -5,7 +5,7 @@ use crate::message::LONGEST;
 use crate::operation;
 use crate::parameter::Need;
 use crate::part::Part;
-use crate::table::{Entry, Open, Table, Transaction, Waiting};
+use crate::table::{Entry, Open, Side, Table, Transaction, Waiting};
 use crate::write;
 
 /// What a local call gives.
@@ -105,8 +105,8 @@ fn try_begin(
     suited(need, parameter)?;
     let message = write::register(transaction, &write::invoke(id, operation, parameter));
     let open = Open {
-        own: Some(Waiting { id, operation }),
-        peer: None,
+        own: Side::default().and(Waiting { id, operation }),
+        peer: Side::default(),
     };
     fitting(table, transaction, Entry::Open(open), message, room)
 }
@@ -122,12 +122,13 @@ fn try_invoke(
     let table = undamaged(image)?;
     let need = operation::we_begin(operation).ok_or(Refusal::NotListed)?;
     let (transaction, open) = opened(&table, named)?;
-    if open.own.is_some() {
+    // "when four wait or when the id is already among ours"
+    if open.own.is_full() || open.own.with_id(id).is_some() {
         return Err(Refusal::OwnOutstanding);
     }
     suited(need, parameter)?;
     let message = write::facility(transaction, &write::invoke(id, operation, parameter));
-    let own = Some(Waiting { id, operation });
+    let own = open.own.and(Waiting { id, operation });
     let entry = Entry::Open(Open { own, ..open });
     fitting(table, transaction, entry, message, room)
 }
@@ -144,7 +145,7 @@ fn try_result(
     let peer = peer_invoke(open, id)?;
     suited(operation::result_written(peer.operation), parameter)?;
     let message = write::facility(transaction, &write::result(id, peer.operation, parameter));
-    fitting(table, transaction, answered(open), message, room)
+    fitting(table, transaction, answered(open, id), message, room)
 }
 
 fn try_error(
@@ -165,7 +166,7 @@ fn try_error(
     // "25 parameter, which for an error is none or one element"
     one_element(parameter)?;
     let message = write::facility(transaction, &write::error(id, code, parameter));
-    fitting(table, transaction, answered(open), message, room)
+    fitting(table, transaction, answered(open, id), message, room)
 }
 
 fn try_release(image: &[u8], named: (u8, u8), room: usize) -> Result<Done, Refusal> {
@@ -176,7 +177,7 @@ fn try_release(image: &[u8], named: (u8, u8), room: usize) -> Result<Done, Refus
     fitting(table, transaction, Entry::Closed, message, room)
 }
 
-/// "28 damaged image or not 70 octets"
+/// "28 damaged image", or not 238 octets
 fn undamaged(image: &[u8]) -> Result<Table, Refusal> {
     Table::decode(image).ok_or(Refusal::Damaged)
 }
@@ -192,13 +193,13 @@ fn opened(table: &Table, (flag, value): (u8, u8)) -> Result<(Transaction, Open),
 
 /// "24 no such peer invoke"
 fn peer_invoke(open: Open, id: i8) -> Result<Waiting, Refusal> {
-    let peer = open.peer.filter(|waiting| waiting.id == id);
-    peer.ok_or(Refusal::NoSuchPeerInvoke)
+    open.peer.with_id(id).ok_or(Refusal::NoSuchPeerInvoke)
 }
 
-/// "Answering clears the peer invoke."
-fn answered(open: Open) -> Entry {
-    Entry::Open(Open { peer: None, ..open })
+/// "Answering clears the peer invoke": the one with this id, in any order.
+fn answered(open: Open, id: i8) -> Entry {
+    let peer = open.peer.without(id);
+    Entry::Open(Open { peer, ..open })
 }
 
 /// "25 parameter"

@@ -23,11 +23,11 @@ pub fn weigh(component: &Component, entry: Open) -> Result<Open, Fault> {
         Component::ReturnResult { id, answer } => {
             result(entry, *id, answer.as_ref())
                 .map_err(|n| Fault::Problem(Some(*id), Problem::Result(n)))?;
-            Ok(Open { own: None, ..entry })
+            Ok(without_own(entry, *id))
         }
         Component::ReturnError { id, code, .. } => {
             error(entry, *id, *code).map_err(|n| Fault::Problem(Some(*id), Problem::Error(n)))?;
-            Ok(Open { own: None, ..entry })
+            Ok(without_own(entry, *id))
         }
         Component::Reject { .. } => Ok(entry),
     }
@@ -56,10 +56,18 @@ pub fn text(component: &Component) -> Option<Text> {
 fn with_peer(entry: Open, id: i8, operation: u8) -> Open {
     match operation::waits_for_us(operation) {
         true => Open {
-            peer: Some(Waiting { id, operation }),
+            peer: entry.peer.and(Waiting { id, operation }),
             ..entry
         },
         false => entry,
+    }
+}
+
+/// "A result or error clears the place with its id; the others keep their order."
+fn without_own(entry: Open, id: i8) -> Open {
+    Open {
+        own: entry.own.without(id),
+        ..entry
     }
 }
 
@@ -71,11 +79,12 @@ fn invoke(
     operation: u8,
     parameter: Option<&Element>,
 ) -> Result<(), u8> {
-    // "id equal to the waiting peer invoke, invoke problem 0; any other waiting, 3"
-    match entry.peer {
-        Some(waiting) if waiting.id == id => return Err(0),
-        Some(_) => return Err(3),
-        None => (),
+    // "equal to any waiting peer id", 0; "problem 3 is given only when four wait"
+    if entry.peer.with_id(id).is_some() {
+        return Err(0);
+    }
+    if entry.peer.is_full() {
+        return Err(3);
     }
     // "operation not served, 1"
     let need = operation::we_serve(operation).ok_or(1)?;
@@ -89,10 +98,10 @@ fn invoke(
     }
 }
 
-/// "linked id not our outstanding one, 5; ours not operation 17, 6; linked
-/// operation not 18, 7"
+/// "A linked id is looked up among all of ours": not there, 5; "ours not operation
+/// 17, 6; linked operation not 18, 7"
 fn link(entry: Open, linked: i8, operation: u8) -> Result<(), u8> {
-    let ours = entry.own.filter(|own| own.id == linked).ok_or(5)?;
+    let ours = entry.own.with_id(linked).ok_or(5)?;
     if ours.operation != operation::REGISTER_PASSWORD {
         return Err(6);
     }
@@ -102,9 +111,10 @@ fn link(entry: Open, linked: i8, operation: u8) -> Result<(), u8> {
     }
 }
 
-/// "id, result problem 0; operation other than ours, or parameter, 2"
+/// "id, result problem 0; operation other than ours, or parameter, 2": "Ours is the
+/// one with the result's or error's id"
 fn result(entry: Open, id: i8, answer: Option<&Answer>) -> Result<(), u8> {
-    let ours = entry.own.filter(|own| own.id == id).ok_or(0)?;
+    let ours = entry.own.with_id(id).ok_or(0)?;
     if answer.is_some_and(|a| a.operation != ours.operation) {
         return Err(2);
     }
@@ -118,7 +128,7 @@ fn result(entry: Open, id: i8, answer: Option<&Answer>) -> Result<(), u8> {
 /// "id, error problem 0; code not listed, 2"; "directly after" it 3, where the code
 /// "isn't in the list of the outstanding operation"
 fn error(entry: Open, id: i8, code: u8) -> Result<(), u8> {
-    let ours = entry.own.filter(|own| own.id == id).ok_or(0)?;
+    let ours = entry.own.with_id(id).ok_or(0)?;
     if !operation::is_error_code(code) {
         return Err(2);
     }

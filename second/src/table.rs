@@ -1,15 +1,28 @@
-//! The transaction table and its image of 70 octets.
+//! The transaction table and its image of 238 octets.
 
 use crate::operation;
 
-pub const LENGTH: usize = 70;
+pub const LENGTH: usize = ENTRIES * ENTRY;
 const ENTRIES: usize = 14;
+/// "An entry has 17 octets": the state and two sides.
+const ENTRY: usize = 1 + 2 * SIDE;
+/// "up to four own and four peer invokes"
+const PLACES: usize = 4;
+/// An id and an operation for each place.
+const SIDE: usize = 2 * PLACES;
 
 /// An invoke that waits for its answer.
 #[derive(Clone, Copy, Debug, PartialEq, Eq)]
 pub struct Waiting {
     pub id: i8,
     pub operation: u8,
+}
+
+/// The invokes of one side that wait, ours or the peer's, the oldest first; the
+/// places behind them are None.
+#[derive(Clone, Copy, Debug, Default, PartialEq, Eq)]
+pub struct Side {
+    places: [Option<Waiting>; PLACES],
 }
 
 #[derive(Clone, Copy, Debug, PartialEq, Eq)]
@@ -20,8 +33,8 @@ pub enum Entry {
 
 #[derive(Clone, Copy, Debug, Default, PartialEq, Eq)]
 pub struct Open {
-    pub own: Option<Waiting>,
-    pub peer: Option<Waiting>,
+    pub own: Side,
+    pub peer: Side,
 }
 
 /// "named by the flag it is received under and its value"
@@ -49,13 +62,13 @@ impl Transaction {
 }
 
 impl Table {
-    /// None for a damaged image, or one that has not 70 octets.
+    /// None for a damaged image, or one that has not 238 octets.
     pub fn decode(image: &[u8]) -> Option<Table> {
         if image.len() != LENGTH {
             return None;
         }
         let mut entries = [Entry::Closed; ENTRIES];
-        for (entry, octets) in entries.iter_mut().zip(image.chunks(5)) {
+        for (entry, octets) in entries.iter_mut().zip(image.chunks(ENTRY)) {
             *entry = Entry::decode(octets)?;
         }
         Some(Table { entries })
@@ -81,50 +94,111 @@ impl Table {
 }
 
 impl Entry {
-    /// "state, own id, own operation, peer id, peer operation"
+    /// "all zero if closed"; else the state, the own side, the peer's side.
     fn decode(octets: &[u8]) -> Option<Entry> {
-        let &[state, own_id, own_operation, peer_id, peer_operation] = octets else {
-            return None;
-        };
-        let own = Waiting::decode(state & 2 != 0, own_id, own_operation)?;
-        let peer = Waiting::decode(state & 4 != 0, peer_id, peer_operation)?;
-        // "own operations are those we begin, peer ones 18, 60, 61"
-        let own_is_ours = own.is_none_or(|w| operation::we_begin(w.operation).is_some());
-        let peer_is_served = peer.is_none_or(|w| operation::waits_for_us(w.operation));
-        match state {
-            0 => Some(Entry::Closed),
-            1 | 3 | 5 | 7 if own_is_ours && peer_is_served => Some(Entry::Open(Open { own, peer })),
-            _ => None,
+        if octets == [0; ENTRY] {
+            return Some(Entry::Closed);
         }
+        let (state, sides) = octets.split_first()?;
+        let (own, peer) = sides.split_at(SIDE);
+        // "own operations are those we begin, peer ones 18, 60, 61"
+        let open = Open {
+            own: Side::decode(own, |number| operation::we_begin(number).is_some())?,
+            peer: Side::decode(peer, operation::waits_for_us)?,
+        };
+        (*state == open.state()).then_some(Entry::Open(open))
     }
 
-    /// "State 0 is closed; an open one is 1, plus 2 with an own invoke
-    /// outstanding, plus 4 with a peer invoke outstanding."
-    fn encode(&self) -> [u8; 5] {
-        let Entry::Open(Open { own, peer }) = *self else {
-            return [0; 5];
-        };
-        let state = 1 + 2 * u8::from(own.is_some()) + 4 * u8::from(peer.is_some());
-        let [own_id, own_operation] = Waiting::encode(own);
-        let [peer_id, peer_operation] = Waiting::encode(peer);
-        [state, own_id, own_operation, peer_id, peer_operation]
+    fn encode(&self) -> [u8; ENTRY] {
+        let mut octets = [0; ENTRY];
+        if let Entry::Open(open) = self {
+            octets[0] = open.state();
+            octets[1..=SIDE].copy_from_slice(&open.own.encode());
+            octets[1 + SIDE..].copy_from_slice(&open.peer.encode());
+        }
+        octets
+    }
+}
+
+impl Open {
+    /// "open is 1, plus 2 with one own invoke or more outstanding, plus 4 with one
+    /// peer invoke or more"
+    fn state(&self) -> u8 {
+        1 + 2 * u8::from(!self.own.is_empty()) + 4 * u8::from(!self.peer.is_empty())
+    }
+}
+
+impl Side {
+    pub fn waiting(&self) -> impl Iterator<Item = Waiting> {
+        self.places.into_iter().flatten()
+    }
+
+    /// "the place with its id"
+    pub fn with_id(&self, id: i8) -> Option<Waiting> {
+        self.waiting().find(|waiting| waiting.id == id)
+    }
+
+    pub fn is_empty(&self) -> bool {
+        self.waiting().count() == 0
+    }
+
+    /// "when four wait"
+    pub fn is_full(&self) -> bool {
+        self.waiting().count() == PLACES
+    }
+
+    /// "A new one comes behind the last"
+    #[must_use]
+    pub fn and(self, new: Waiting) -> Side {
+        assert!(!self.is_full(), "no fifth one waits");
+        Side::of(self.waiting().chain([new]))
+    }
+
+    /// "when one is cleared, those behind it move up"
+    #[must_use]
+    pub fn without(self, id: i8) -> Side {
+        Side::of(self.waiting().filter(|waiting| waiting.id != id))
+    }
+
+    fn of(waiting: impl Iterator<Item = Waiting>) -> Side {
+        let mut side = Side::default();
+        for (place, waiting) in side.places.iter_mut().zip(waiting) {
+            *place = Some(waiting);
+        }
+        side
+    }
+
+    /// "the used places first, each with an operation of its side, then zeros only;
+    /// no two used places of one side with the same id"; else None.
+    fn decode(octets: &[u8], is_of_side: impl Fn(u8) -> bool) -> Option<Side> {
+        // "a place is used exactly if its operation isn't 0"
+        let places = octets.chunks(2).map(Waiting::decode);
+        let side = Side::of(places.take_while(|place| place.operation != 0));
+        let is_sound = side.waiting().all(|waiting| is_of_side(waiting.operation))
+            && side.has_no_id_twice()
+            && side.encode() == octets;
+        is_sound.then_some(side)
+    }
+
+    fn has_no_id_twice(&self) -> bool {
+        let times = |id: i8| self.waiting().filter(|other| other.id == id).count();
+        self.waiting().all(|waiting| times(waiting.id) == 1)
+    }
+
+    fn encode(&self) -> [u8; SIDE] {
+        let mut octets = [0; SIDE];
+        for (pair, waiting) in octets.chunks_mut(2).zip(self.waiting()) {
+            pair.copy_from_slice(&[waiting.id as u8, waiting.operation]);
+        }
+        octets
     }
 }
 
 impl Waiting {
-    /// "Unused octets are 0": Some(None) if nothing waits and both are.
-    fn decode(waits: bool, id: u8, operation: u8) -> Option<Option<Waiting>> {
-        match (waits, id, operation) {
-            (true, ..) => Some(Some(Waiting {
-                id: id as i8,
-                operation,
-            })),
-            (false, 0, 0) => Some(None),
-            (false, ..) => None,
+    fn decode(pair: &[u8]) -> Waiting {
+        Waiting {
+            id: pair[0] as i8,
+            operation: pair[1],
         }
-    }
-
-    fn encode(waiting: Option<Waiting>) -> [u8; 2] {
-        waiting.map_or([0, 0], |w| [w.id as u8, w.operation])
     }
 }

@@ -78,7 +78,7 @@ fn main() {
     let mut state = Bench {
         have: 0,
         number: 0,
-        size: 70,
+        size: 238,
         room: 255,
     };
     let mut turns = u64::MAX;

@@ -3,7 +3,7 @@ use Prim.Native.Nat.{ℕ}
 use mathlib.Core.Path.{_≡_, sym, ap, _∙_}
 use mathlib.Core.List.{List}
 use Rattle.octets.specs.Reader.{sound}
-use Rattle.table.proofs.Determined.{slot-determined}
+use Rattle.table.proofs.Determined.{change-determined}
 use Rattle.calling.specs.Calls.{Sending}
 use Rattle.calling.specs.Seen.{callSeen, CallNames}
 use Rattle.calling.specs.declared.Call.{Call}
@@ -19,6 +19,6 @@ call-determined message named (Goes k s o) (Refused m) e a b = cc
 call-determined message named (Goes k s o) (Goes j t p) e a b =
     let g = sound-inj e in
     let x : k ≡ j = ap (λ (i : Sending). i .entry) g in
-    let y = slot-determined s t (ap (λ (i : Sending). i .becomes) g) in
+    let y = change-determined s t (ap (λ (i : Sending). i .change) g) in
     let z : o ≡ p = a ∙ ap named x ∙ sym b in
     λ n. Goes (x n) (y n) (z n)

@@ -1,9 +1,9 @@
 -- What the definitions say on each path through the code: a law for each return, in the order of the code.
 use Prim.Native.Nat.{ℕ, _+_, _*_, _≤_, _<_}
 use native.Mathlib.Omega.{arith}
-use mathlib.Core.Path.{_≡_, refl, _∙_}
-use mathlib.Core.List.{List, [], _∷_}
-use mathlib.Core.Bool.{Bool, true, false, cond, _&&_}
+use mathlib.Core.Path.{_≡_, refl, sym, ap, _∙_}
+use mathlib.Core.List.{List}
+use mathlib.Core.Bool.{Bool, true, false, cond, _&&_, _||_}
 use mathlib.Core.Option.{none, some}
 use borrow.Author.Tests.{lt-leb, le-leb, leb-true}
 use lib.IntN.{ℤ}
@@ -16,22 +16,40 @@ use Rattle.codes.proofs.IdLaws.{asHeld, IsId, held-is}
 use Rattle.parameters.specs.Suits.{suits, noneOrOne, InvokeWritten, ResultWritten}
 use Rattle.components.specs.Written.{codedLength, resultLength}
 use Rattle.messages.specs.Layout.{sentFirst}
-use Rattle.table.specs.Table.{entryNumber, named, entryAt, valid, lowestClosed}
-use Rattle.table.specs.Seen.{invokeSeen, slotSeen}
+use Rattle.table.specs.Table.{Entry, entryNumber, named, entryAt, valid, lowestClosed}
+use Rattle.sides.specs.Side.{among, full, operationOf}
+use Rattle.table.specs.Seen.{slotSeen}
 use Rattle.table.specs.declared.Slot.{Slot}
-use Rattle.table.specs.declared.Invoke.{Invoke}
+use Rattle.table.specs.declared.Change.{Change}
 use Rattle.table.specs.declared.Named.{Named}
-use Rattle.table.proofs.TableLaws.{valid-each, lowest-closed-is}
-use Rattle.judging.specs.StepSix.{among, full, operationOf}
-use Rattle.judging.proofs.Paths.{room as none-waits, cleared}
+use Rattle.table.proofs.TableLaws.{holds-at, lowest-closed-is}
+use Rattle.table.proofs.ChangeLaws.{adds-holds, begins-holds, clears-holds, closes-holds}
+use Rattle.table.specs.Change.{ours, peers, closes, adds, clears, CanChange}
+use Rattle.sides.specs.Seen.{sideSeen}
+use Rattle.sides.proofs.SideLaws.{neither}
 use Rattle.calling.specs.Calls.{Sending, transaction, fitting, sendBegin, sendInvoke, sendResult, sendError, sendRelease}
 use Rattle.calling.specs.Seen.{callSeen, CallWithin, lengthRefusal, NamedWithin, begun, invoked, answered, erred, releaseSent}
 use Rattle.calling.specs.declared.Call.{Call}
 use Rattle.calling.proofs.Lengths.{too-long, refused, fits, register-octets, facility-invoke, facility-error, facility-answer, long-answer}
 
--- an entry of a table that is whole
-within : (t : List ℕ) (k : ℕ) → valid t ≡ true → k ≤ 13 → 5 * k + 5 ≤ length t
-within t k v h = omega (arith, valid-each t v .0)
+-- each change of an entry that the table has
+module _ (t : List ℕ) (k : ℕ) (v : valid t ≡ true) (h : k ≤ 13) where
+  below : k < 14
+  below = omega arith
+
+  begun-within : (id : ℤ) (operation : ℕ) → entryAt t k .isOpen ≡ false → begins operation ≡ true → CanChange t k (adds ours id operation)
+  begun-within id operation o b = (v, (below, begins-holds (entryAt t k) id operation (holds-at t k v below) o b))
+
+  invoked-within : (id : ℤ) (operation : ℕ) → (full (entryAt t k .own) || among id (entryAt t k .own)) ≡ false → begins operation ≡ true → CanChange t k (adds ours id operation)
+  invoked-within id operation f b =
+      let w = neither (full (entryAt t k .own)) (among id (entryAt t k .own)) f in
+      (v, (below, adds-holds (entryAt t k) (holds-at t k v below) ours id operation (w .0) (w .1) b))
+
+  answered-within : (id : ℤ) → CanChange t k (clears peers id)
+  answered-within id = (v, (below, clears-holds (entryAt t k) (holds-at t k v below) peers id))
+
+  released-within : CanChange t k closes
+  released-within = (v, (below, closes-holds (entryAt t k)))
 
 -- an entry that a flag and a value name
 place-within : (flag value : ℕ) → value ≤ 6 → entryNumber flag value ≤ 13
@@ -70,10 +88,10 @@ module _ (table : List ℕ) (flag value : ℕ) where
 -- begin; an id that the code stores is the one that its octet says
 module _ (table : List ℕ) (room operation : ℕ) (id : ℤ) (p : List ℕ) where
   begin-sends : ℕ → Sending
-  begin-sends v = record { entry = v; becomes = record { isOpen = true; own = record { id = id; operation = operation } ∷ []; peer = [] }; message = begun operation id p v operation }
+  begin-sends v = record { entry = v; change = adds ours id operation; message = begun operation id p v operation }
 
-  abbrev pub begunSlot : Slot
-  begunSlot = record { «open» = true; own = Invoke.Waits (asHeld id) operation; peer = Invoke.Absent }
+  abbrev pub begunChange : Change
+  begunChange = Change.Adds true (asHeld id) operation
 
   pub begin-damaged : valid table ≡ false → fault 28 ≡ sendBegin table room operation id p
   unfolding sendBegin
@@ -108,19 +126,20 @@ module _ (table : List ℕ) (room operation : ℕ) (id : ℤ) (p : List ℕ) whe
             unfolding begin-sends
             begin-refused n = refused room (begin-sends v) (7 + codedLength (length p)) (register-octets (sentFirst 1 v) id operation p) r e n ∙ begin-ready
 
-            pub begin-goes : r ≡ 0 → IsId id → (callSeen (begun operation id p) (Call.Goes v begunSlot operation) ≡ sendBegin table room operation id p) × CallWithin table room 1 0 (begun operation id p) (Call.Goes v begunSlot operation)
+            pub begin-goes : r ≡ 0 → IsId id → (callSeen (begun operation id p) (Call.Goes v begunChange operation) ≡ sendBegin table room operation id p) × CallWithin table room 1 0 (begun operation id p) (Call.Goes v begunChange operation)
             unfolding begin-sends
             begin-goes z i =
                 let f = fits room (begin-sends v) (7 + codedLength (length p)) (register-octets (sentFirst 1 v) id operation p) r e z in
-                (rw (held-is i) (f .0 ∙ begin-ready), (within table v d (omega (arith, lowest-closed-is table v l .0)), (omega arith, (omega arith, f .1))))
+                let w = lowest-closed-is table v l in
+                (rw (held-is i) (f .0 ∙ begin-ready), (rw (held-is i) (begun-within table v d (omega (arith, w .0)) id operation (w .1) b), (omega arith, (omega arith, f .1))))
 
 -- invoke within
 module _ (table : List ℕ) (room flag value operation : ℕ) (id : ℤ) (p : List ℕ) where
-  invoke-sends : ℕ → Slot → Sending
-  invoke-sends k slot = record { entry = k; becomes = record { isOpen = true; own = record { id = id; operation = operation } ∷ []; peer = invokeSeen (slot .peer) }; message = invoked flag value operation id p k operation }
+  invoke-sends : ℕ → Sending
+  invoke-sends k = record { entry = k; change = adds ours id operation; message = invoked flag value operation id p k operation }
 
-  abbrev pub invokedSlot : Slot → Slot
-  invokedSlot slot = record { «open» = true; own = Invoke.Waits (asHeld id) operation; peer = slot .peer }
+  abbrev pub invokedChange : Change
+  invokedChange = Change.Adds true (asHeld id) operation
 
   pub invoke-damaged : valid table ≡ false → fault 28 ≡ sendInvoke table room flag value operation id p
   unfolding sendInvoke
@@ -137,45 +156,46 @@ module _ (table : List ℕ) (room flag value operation : ℕ) (id : ℤ) (p : Li
       invoke-closed t = rw (d, b, ← t)
 
       module _ (k : ℕ) (t : sound k ≡ transaction table flag value) (slot : Slot) (seen : slotSeen slot ≡ entryAt table k) where
-        pub invoke-full : full (invokeSeen (slot .own)) ≡ true → fault 23 ≡ sendInvoke table room flag value operation id p
+        pub invoke-full : (full (sideSeen (slot .own)) || among id (sideSeen (slot .own))) ≡ true → fault 23 ≡ sendInvoke table room flag value operation id p
         unfolding sendInvoke
         invoke-full f = rw (d, b, ← t, ← seen, f)
 
-        module _ (f : full (invokeSeen (slot .own)) ≡ false) where
+        module _ (f : (full (sideSeen (slot .own)) || among id (sideSeen (slot .own))) ≡ false) where
           pub invoke-unsuited : suits InvokeWritten operation p ≡ false → fault 25 ≡ sendInvoke table room flag value operation id p
           unfolding sendInvoke
           invoke-unsuited s = rw (d, b, ← t, ← seen, f, s)
 
           module _ (s : suits InvokeWritten operation p ≡ true) where
-            invoke-ready : fitting room (invoke-sends k slot) ≡ sendInvoke table room flag value operation id p
+            invoke-ready : fitting room (invoke-sends k) ≡ sendInvoke table room flag value operation id p
             unfolding sendInvoke invoke-sends
-            invoke-ready = rw (d, b, ← t, ← seen, f, s, none-waits (slot .own) f)
+            invoke-ready = rw (d, b, ← t, ← seen, f, s)
 
             pub invoke-long : 255 < length p → fault 26 ≡ sendInvoke table room flag value operation id p
             unfolding invoke-sends
-            invoke-long h = too-long room (invoke-sends k slot) (3 + codedLength (length p)) (facility-invoke (sentFirst flag value) id operation p) (omega arith) ∙ invoke-ready
+            invoke-long h = too-long room (invoke-sends k) (3 + codedLength (length p)) (facility-invoke (sentFirst flag value) id operation p) (omega arith) ∙ invoke-ready
 
             module _ (r : ℕ) (e : r ≡ lengthRefusal (3 + codedLength (length p)) room) where
               pub invoke-refused : (r ≡ 0 → ⊥) → fault r ≡ sendInvoke table room flag value operation id p
               unfolding invoke-sends
-              invoke-refused n = refused room (invoke-sends k slot) (3 + codedLength (length p)) (facility-invoke (sentFirst flag value) id operation p) r e n ∙ invoke-ready
+              invoke-refused n = refused room (invoke-sends k) (3 + codedLength (length p)) (facility-invoke (sentFirst flag value) id operation p) r e n ∙ invoke-ready
 
               pub invoke-goes : r ≡ 0 → IsId id → NamedWithin flag value (Named.At k)
-                  → (callSeen (invoked flag value operation id p) (Call.Goes k (invokedSlot slot) operation) ≡ sendInvoke table room flag value operation id p)
-                  × CallWithin table room flag value (invoked flag value operation id p) (Call.Goes k (invokedSlot slot) operation)
+                  → (callSeen (invoked flag value operation id p) (Call.Goes k invokedChange operation) ≡ sendInvoke table room flag value operation id p)
+                  × CallWithin table room flag value (invoked flag value operation id p) (Call.Goes k invokedChange operation)
               unfolding invoke-sends
               invoke-goes z i w =
-                  let f = fits room (invoke-sends k slot) (3 + codedLength (length p)) (facility-invoke (sentFirst flag value) id operation p) r e z in
-                  (rw (held-is i) (f .0 ∙ invoke-ready), (within table k d (w .1 .1), (w .0, (w .1 .0, f .1))))
+                  let g = fits room (invoke-sends k) (3 + codedLength (length p)) (facility-invoke (sentFirst flag value) id operation p) r e z in
+                  let v : (full (entryAt table k .own) || among id (entryAt table k .own)) ≡ false = ap (λ (x : Entry). full (x .own) || among id (x .own)) (sym seen) ∙ f in
+                  (rw (held-is i) (g .0 ∙ invoke-ready), (rw (held-is i) (invoked-within table k d (w .1 .1) id operation v b), (w .0, (w .1 .0, g .1))))
 
 -- the peer's invoke is answered
-abbrev pub clearedSlot : Slot → Slot
-clearedSlot slot = record { «open» = slot .«open»; own = slot .own; peer = Invoke.Absent }
+abbrev pub answeredChange : ℤ → Change
+answeredChange id = Change.Clears false (asHeld id)
 
 -- result
 module _ (table : List ℕ) (room flag value : ℕ) (id : ℤ) (p : List ℕ) where
-  result-sends : ℕ → Slot → ℕ → Sending
-  result-sends k slot o = record { entry = k; becomes = record { isOpen = slot .«open»; own = invokeSeen (slot .own); peer = [] }; message = answered flag value id p k o }
+  result-sends : ℕ → ℕ → Sending
+  result-sends k o = record { entry = k; change = clears peers id; message = answered flag value id p k o }
 
   pub result-damaged : valid table ≡ false → fault 28 ≡ sendResult table room flag value id p
   unfolding sendResult
@@ -187,42 +207,42 @@ module _ (table : List ℕ) (room flag value : ℕ) (id : ℤ) (p : List ℕ) wh
     result-closed t = rw (d, ← t)
 
     module _ (k : ℕ) (t : sound k ≡ transaction table flag value) (slot : Slot) (seen : slotSeen slot ≡ entryAt table k) where
-      pub result-unasked : among id (invokeSeen (slot .peer)) ≡ false → fault 24 ≡ sendResult table room flag value id p
+      pub result-unasked : among id (sideSeen (slot .peer)) ≡ false → fault 24 ≡ sendResult table room flag value id p
       unfolding sendResult
       result-unasked a = rw (d, ← t, ← seen, a)
 
-      module _ (a : among id (invokeSeen (slot .peer)) ≡ true) (o : ℕ) (q : o ≡ operationOf id (invokeSeen (slot .peer))) where
+      module _ (a : among id (sideSeen (slot .peer)) ≡ true) (o : ℕ) (q : o ≡ operationOf id (sideSeen (slot .peer))) where
         pub result-unsuited : suits ResultWritten o p ≡ false → fault 25 ≡ sendResult table room flag value id p
         unfolding sendResult
         result-unsuited s = rw (d, ← t, ← seen, a, ← q, s)
 
         module _ (s : suits ResultWritten o p ≡ true) where
-          result-ready : fitting room (result-sends k slot o) ≡ sendResult table room flag value id p
+          result-ready : fitting room (result-sends k o) ≡ sendResult table room flag value id p
           unfolding sendResult result-sends
-          result-ready = rw (d, ← t, ← seen, a, ← q, s, cleared id (slot .peer) a)
+          result-ready = rw (d, ← t, ← seen, a, ← q, s)
 
           pub result-long : 255 < length p → fault 26 ≡ sendResult table room flag value id p
           unfolding result-sends
-          result-long h = too-long room (result-sends k slot o) (3 + resultLength (length p)) (facility-answer (sentFirst flag value) id o p) (long-answer (length p) h) ∙ result-ready
+          result-long h = too-long room (result-sends k o) (3 + resultLength (length p)) (facility-answer (sentFirst flag value) id o p) (long-answer (length p) h) ∙ result-ready
 
           module _ (r : ℕ) (e : r ≡ lengthRefusal (3 + resultLength (length p)) room) where
             pub result-refused : (r ≡ 0 → ⊥) → fault r ≡ sendResult table room flag value id p
             unfolding result-sends
-            result-refused n = refused room (result-sends k slot o) (3 + resultLength (length p)) (facility-answer (sentFirst flag value) id o p) r e n ∙ result-ready
+            result-refused n = refused room (result-sends k o) (3 + resultLength (length p)) (facility-answer (sentFirst flag value) id o p) r e n ∙ result-ready
 
-            pub result-goes : r ≡ 0 → NamedWithin flag value (Named.At k)
-                → (callSeen (answered flag value id p) (Call.Goes k (clearedSlot slot) o) ≡ sendResult table room flag value id p)
-                × CallWithin table room flag value (answered flag value id p) (Call.Goes k (clearedSlot slot) o)
+            pub result-goes : r ≡ 0 → IsId id → NamedWithin flag value (Named.At k)
+                → (callSeen (answered flag value id p) (Call.Goes k (answeredChange id) o) ≡ sendResult table room flag value id p)
+                × CallWithin table room flag value (answered flag value id p) (Call.Goes k (answeredChange id) o)
                 × (o ≡ operationOf id (entryAt table k .peer))
             unfolding result-sends
-            result-goes z w =
-                let f = fits room (result-sends k slot o) (3 + resultLength (length p)) (facility-answer (sentFirst flag value) id o p) r e z in
-                (f .0 ∙ result-ready, (within table k d (w .1 .1), (w .0, (w .1 .0, f .1))), rw (← seen) q)
+            result-goes z i w =
+                let f = fits room (result-sends k o) (3 + resultLength (length p)) (facility-answer (sentFirst flag value) id o p) r e z in
+                (rw (held-is i) (f .0 ∙ result-ready), (rw (held-is i) (answered-within table k d (w .1 .1) id), (w .0, (w .1 .0, f .1))), rw (← seen) q)
 
 -- error
 module _ (table : List ℕ) (room flag value : ℕ) (id : ℤ) (code : ℕ) (p : List ℕ) where
-  error-sends : ℕ → Slot → Sending
-  error-sends k slot = record { entry = k; becomes = record { isOpen = slot .«open»; own = invokeSeen (slot .own); peer = [] }; message = erred flag value id code p k 0 }
+  error-sends : ℕ → Sending
+  error-sends k = record { entry = k; change = clears peers id; message = erred flag value id code p k 0 }
 
   pub error-damaged : valid table ≡ false → fault 28 ≡ sendError table room flag value id code p
   unfolding sendError
@@ -239,41 +259,38 @@ module _ (table : List ℕ) (room flag value : ℕ) (id : ℤ) (code : ℕ) (p :
       error-closed t = rw (d, b, ← t)
 
       module _ (k : ℕ) (t : sound k ≡ transaction table flag value) (slot : Slot) (seen : slotSeen slot ≡ entryAt table k) where
-        pub error-unasked : among id (invokeSeen (slot .peer)) ≡ false → fault 24 ≡ sendError table room flag value id code p
+        pub error-unasked : among id (sideSeen (slot .peer)) ≡ false → fault 24 ≡ sendError table room flag value id code p
         unfolding sendError
         error-unasked a = rw (d, b, ← t, ← seen, a)
 
-        module _ (a : among id (invokeSeen (slot .peer)) ≡ true) where
+        module _ (a : among id (sideSeen (slot .peer)) ≡ true) where
           pub error-unsuited : noneOrOne p ≡ false → fault 25 ≡ sendError table room flag value id code p
           unfolding sendError
           error-unsuited s = rw (d, b, ← t, ← seen, a, s)
 
           module _ (s : noneOrOne p ≡ true) where
-            error-ready : fitting room (error-sends k slot) ≡ sendError table room flag value id code p
+            error-ready : fitting room (error-sends k) ≡ sendError table room flag value id code p
             unfolding sendError error-sends
-            error-ready = rw (d, b, ← t, ← seen, a, s, cleared id (slot .peer) a)
+            error-ready = rw (d, b, ← t, ← seen, a, s)
 
             pub error-long : 255 < length p → fault 26 ≡ sendError table room flag value id code p
             unfolding error-sends
-            error-long h = too-long room (error-sends k slot) (3 + codedLength (length p)) (facility-error (sentFirst flag value) id code p) (omega arith) ∙ error-ready
+            error-long h = too-long room (error-sends k) (3 + codedLength (length p)) (facility-error (sentFirst flag value) id code p) (omega arith) ∙ error-ready
 
             module _ (r : ℕ) (e : r ≡ lengthRefusal (3 + codedLength (length p)) room) where
               pub error-refused : (r ≡ 0 → ⊥) → fault r ≡ sendError table room flag value id code p
               unfolding error-sends
-              error-refused n = refused room (error-sends k slot) (3 + codedLength (length p)) (facility-error (sentFirst flag value) id code p) r e n ∙ error-ready
+              error-refused n = refused room (error-sends k) (3 + codedLength (length p)) (facility-error (sentFirst flag value) id code p) r e n ∙ error-ready
 
-              pub error-goes : r ≡ 0 → NamedWithin flag value (Named.At k)
-                  → (callSeen (erred flag value id code p) (Call.Goes k (clearedSlot slot) 0) ≡ sendError table room flag value id code p)
-                  × CallWithin table room flag value (erred flag value id code p) (Call.Goes k (clearedSlot slot) 0)
+              pub error-goes : r ≡ 0 → IsId id → NamedWithin flag value (Named.At k)
+                  → (callSeen (erred flag value id code p) (Call.Goes k (answeredChange id) 0) ≡ sendError table room flag value id code p)
+                  × CallWithin table room flag value (erred flag value id code p) (Call.Goes k (answeredChange id) 0)
               unfolding error-sends
-              error-goes z w =
-                  let f = fits room (error-sends k slot) (3 + codedLength (length p)) (facility-error (sentFirst flag value) id code p) r e z in
-                  (f .0 ∙ error-ready, (within table k d (w .1 .1), (w .0, (w .1 .0, f .1))))
+              error-goes z i w =
+                  let f = fits room (error-sends k) (3 + codedLength (length p)) (facility-error (sentFirst flag value) id code p) r e z in
+                  (rw (held-is i) (f .0 ∙ error-ready), (rw (held-is i) (answered-within table k d (w .1 .1) id), (w .0, (w .1 .0, f .1))))
 
 -- release
-abbrev pub closedSlot : Slot
-closedSlot = record { «open» = false; own = Invoke.Absent; peer = Invoke.Absent }
-
 module _ (table : List ℕ) (room flag value : ℕ) where
   pub release-damaged : valid table ≡ false → fault 28 ≡ sendRelease table room flag value
   unfolding sendRelease
@@ -290,6 +307,6 @@ module _ (table : List ℕ) (room flag value : ℕ) where
       release-short h = rw (d, ← t, lt-leb 2 room h)
 
       pub release-goes : 2 ≤ room → NamedWithin flag value (Named.At k)
-          → (callSeen (releaseSent flag value) (Call.Goes k closedSlot 0) ≡ sendRelease table room flag value) × CallWithin table room flag value (releaseSent flag value) (Call.Goes k closedSlot 0)
+          → (callSeen (releaseSent flag value) (Call.Goes k Change.Closes 0) ≡ sendRelease table room flag value) × CallWithin table room flag value (releaseSent flag value) (Call.Goes k Change.Closes 0)
       unfolding sendRelease fitting
-      release-goes h w = (rw (d, ← t, le-leb 2 room h), (within table k d (w .1 .1), (w .0, (w .1 .0, (omega arith, h)))))
+      release-goes h w = (rw (d, ← t, le-leb 2 room h), (released-within table k d (w .1 .1), (w .0, (w .1 .0, (omega arith, h)))))

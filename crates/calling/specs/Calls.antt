@@ -1,8 +1,8 @@
 -- 01, "Local calls: begin, invoke within, result, error, release". Each is refused with its number, in 01's order, or it
 -- sends a message and changes the entry of its transaction.
 use Prim.Native.Nat.{ℕ}
-use mathlib.Core.List.{List, [], _∷_, _++_}
-use mathlib.Core.Bool.{true, not}
+use mathlib.Core.List.{List}
+use mathlib.Core.Bool.{not, _||_}
 use mathlib.Core.Option.{Option, none, some}
 use lib.IntN.{ℤ}
 use lib.ListN.{length}
@@ -14,12 +14,13 @@ use Rattle.parameters.specs.Suits.{suits, noneOrOne, InvokeWritten, ResultWritt
 use Rattle.components.specs.Component.{invoke, error}
 use Rattle.components.specs.Written.{componentOctets, resultFor}
 use Rattle.messages.specs.Layout.{sentFirst, register, facilityMessage, releaseEmpty}
-use Rattle.table.specs.Table.{Entry, closed, entryNumber, named, entryAt, valid, lowestClosed}
-use Rattle.judging.specs.StepSix.{among, full, operationOf, without}
+use Rattle.sides.specs.Side.{among, full, operationOf}
+use Rattle.table.specs.Table.{entryNumber, named, entryAt, valid, lowestClosed}
+use Rattle.table.specs.Change.{Change, ours, peers, closes, adds, clears}
 
 pub record Sending : Type 0 where
   pub entry : ℕ
-  pub becomes : Entry
+  pub change : Change
   pub message : List ℕ
 
 abbrev pub orRefused : ℕ → Option ℕ → Answer ℕ
@@ -34,15 +35,7 @@ transaction table flag value = andThen (orRefused 22 (named flag value)) (λ k. 
 unfoldable pub fitting : ℕ → Sending → Answer Sending
 fitting room s = check (leb (length (s .message)) 255) 26 (check (leb (length (s .message)) room) 27 (sound s))
 
--- our invoke is outstanding, behind those that are
-abbrev pub withOwn : Entry → ℤ → ℕ → Entry
-withOwn e id operation = record { isOpen = true; own = e .own ++ (record { id = id; operation = operation } ∷ []); peer = e .peer }
-
--- "Answering clears the peer invoke."
-abbrev pub withoutPeer : Entry → ℤ → Entry
-withoutPeer e id = record { isOpen = e .isOpen; own = e .own; peer = without id (e .peer) }
-
--- "28 damaged image or not 70 octets; 20 operation not listed; 21 no own value closed; 25 parameter"
+-- "28 damaged image or not 238 octets; 20 operation not listed; 21 no own value closed; 25 parameter"
 unfoldable pub sendBegin : List ℕ → ℕ → ℕ → ℤ → List ℕ → Answer Sending
 sendBegin table room operation id p =
     check (valid table) 28
@@ -52,26 +45,26 @@ sendBegin table room operation id p =
     (fitting room
     (record {
       entry = entryNumber 1 v;
-      becomes = withOwn closed id operation;
+      change = adds ours id operation;
       message = register (sentFirst 1 v) (componentOctets (invoke id none operation p));
     })))))
 
--- "22 transaction not open; 23 own invoke outstanding"
+-- "22 transaction not open; 23 own invoke outstanding": "23 is given when four wait or when the id is already among ours"
 unfoldable pub sendInvoke : List ℕ → ℕ → ℕ → ℕ → ℕ → ℤ → List ℕ → Answer Sending
 sendInvoke table room flag value operation id p =
     check (valid table) 28
     (check (begins operation) 20
     (andThen (transaction table flag value) (λ k.
-    check (not (full (entryAt table k .own))) 23
+    check (not (full (entryAt table k .own) || among id (entryAt table k .own))) 23
     (check (suits InvokeWritten operation p) 25
     (fitting room
     (record {
       entry = k;
-      becomes = withOwn (entryAt table k) id operation;
+      change = adds ours id operation;
       message = facilityMessage (sentFirst flag value) (componentOctets (invoke id none operation p));
     }))))))
 
--- "24 no such peer invoke"
+-- "24 no such peer invoke". Answering clears the place with its id.
 unfoldable pub sendResult : List ℕ → ℕ → ℕ → ℕ → ℤ → List ℕ → Answer Sending
 sendResult table room flag value id p =
     check (valid table) 28
@@ -81,7 +74,7 @@ sendResult table room flag value id p =
     (fitting room
     (record {
       entry = k;
-      becomes = withoutPeer (entryAt table k) id;
+      change = clears peers id;
       message = facilityMessage (sentFirst flag value) (componentOctets (resultFor id (operationOf id (entryAt table k .peer)) p));
     })))))
 
@@ -96,7 +89,7 @@ sendError table room flag value id code p =
     (fitting room
     (record {
       entry = k;
-      becomes = withoutPeer (entryAt table k) id;
+      change = clears peers id;
       message = facilityMessage (sentFirst flag value) (componentOctets (error id code p));
     }))))))
 
@@ -105,4 +98,4 @@ unfoldable pub sendRelease : List ℕ → ℕ → ℕ → ℕ → Answer Sending
 sendRelease table room flag value =
     check (valid table) 28
     (andThen (transaction table flag value) (λ k.
-    fitting room (record { entry = k; becomes = closed; message = releaseEmpty (sentFirst flag value) })))
+    fitting room (record { entry = k; change = closes; message = releaseEmpty (sentFirst flag value) })))

@@ -1,5 +1,5 @@
 -- What the code's answers mean, and what is promised of them. The message is told by the entry and the operation; it is not written yet.
-use Prim.Native.Nat.{ℕ, _+_, _*_, _≤_}
+use Prim.Native.Nat.{ℕ, _≤_}
 use mathlib.Core.Path.{_≡_}
 use mathlib.Core.List.{List}
 use mathlib.Core.Bool.{cond}
@@ -11,28 +11,29 @@ use Rattle.octets.specs.Reader.{Answer, fault, sound}
 use Rattle.components.specs.Component.{invoke, error}
 use Rattle.components.specs.Written.{componentOctets, resultFor}
 use Rattle.messages.specs.Layout.{sentFirst, register, facilityMessage, releaseEmpty}
-use Rattle.table.specs.Table.{size, entryAt}
-use Rattle.table.specs.Seen.{slotSeen, namedSeen}
+use Rattle.sides.specs.Side.{operationOf}
+use Rattle.table.specs.Table.{entryAt}
+use Rattle.table.specs.Change.{CanChange}
+use Rattle.table.specs.Seen.{namedSeen, changeSeen}
 use Rattle.table.specs.declared.Named.{Named}
-use Rattle.judging.specs.StepSix.{operationOf}
 use Rattle.calling.specs.Calls.{Sending, orRefused, transaction, sendBegin, sendInvoke, sendResult, sendError, sendRelease}
 use Rattle.calling.specs.declared.Call.{Call}
 
 abbrev pub callSeen : (ℕ → ℕ → List ℕ) → Call → Answer Sending
 callSeen message (Call.Refused number) = fault number
-callSeen message (Call.Goes entry slot operation) = sound (record { entry = entry; becomes = slotSeen slot; message = message entry operation })
+callSeen message (Call.Goes entry change operation) = sound (record { entry = entry; change = changeSeen change; message = message entry operation })
 
--- whoever acts finds the entry in the image, a first octet to send, and room for the message
+-- whoever acts finds an entry that can change so, a first octet to send, and room for the message
 abbrev pub CallWithin : List ℕ → ℕ → ℕ → ℕ → (ℕ → ℕ → List ℕ) → Call → Type 0
 CallWithin table room flag value message (Call.Refused number) = Unit {0}
-CallWithin table room flag value message (Call.Goes entry slot operation) =
-    (size * entry + size ≤ length table)
+CallWithin table room flag value message (Call.Goes entry change operation) =
+    CanChange table entry (changeSeen change)
     × ((flag ≤ 1) × ((value ≤ 6) × ((length (message entry operation) ≤ 255) × (length (message entry operation) ≤ room))))
 
 -- which operation is told with an entry, for whoever writes the message
 abbrev pub CallNames : (ℕ → ℕ) → Call → Type 0
 CallNames named (Call.Refused number) = Unit {0}
-CallNames named (Call.Goes entry slot operation) = operation ≡ named entry
+CallNames named (Call.Goes entry change operation) = operation ≡ named entry
 
 -- a call is refused or goes as its definition says
 abbrev pub DecidesCall : Answer Sending → (ℕ → ℕ → List ℕ) → (ℕ → ℕ) → List ℕ → ℕ → ℕ → ℕ → Call → Type 0

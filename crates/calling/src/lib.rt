@@ -1,16 +1,15 @@
 // Local calls: refused with a number, or ready to send. Nothing is written here.
-use table::Invoke;
+use table::Change;
 use table::Named;
-use table::Slot;
 ghost use mathlib.Core.Path.{_≡_};
 ghost use Rattle.calling.specs.Seen.{FindsOpen, lengthRefusal, DecidesBegin, DecidesInvoke, DecidesResult, DecidesError, DecidesRelease};
 
-// Refused, or the entry with what it becomes and the operation that the message names.
+// Refused, or the entry with its change and the operation that the message names.
 pub enum Call {
     Refused(u8),
     Goes {
         entry: u8,
-        slot: Slot,
+        change: Change,
         operation: u8,
     },
 }
@@ -64,17 +63,12 @@ pub fn decide_begin(table: &[u8], room: usize, operation: u8, id: i8, p: &[u8]) 
     if refusal != 0 {
         return Call::Refused(refusal);
     }
-    let begun = Invoke::Waits {
-        id: id,
-        operation: operation,
-    };
-    let none = Invoke::Absent;
     Call::Goes {
         entry: v,
-        slot: Slot {
-            open: true,
-            own: begun,
-            peer: none,
+        change: Change::Adds {
+            ours: true, // the first of ours
+            id: id,
+            operation: operation,
         },
         operation: operation,
     }
@@ -102,9 +96,8 @@ pub fn decide_invoke(
     };
     let slot = table::read_entry(table, k);
     let own = slot.own;
-    let peer = slot.peer;
-    if judging::is_full(own) {
-        return Call::Refused(23); // own invoke outstanding
+    if sides::is_full(own) | sides::is_among(id, own) {
+        return Call::Refused(23); // four of ours wait, or one with this id
     }
     if !parameters::suits::suits_invoke_written(operation, p) {
         return Call::Refused(25);
@@ -118,13 +111,10 @@ pub fn decide_invoke(
     }
     Call::Goes {
         entry: k,
-        slot: Slot {
-            open: true,
-            own: Invoke::Waits {
-                id: id,
-                operation: operation,
-            },
-            peer: peer,
+        change: Change::Adds {
+            ours: true, // behind the others
+            id: id,
+            operation: operation,
         },
         operation: operation,
     }
@@ -140,12 +130,11 @@ pub fn decide_result(table: &[u8], room: usize, flag: u8, value: u8, id: i8, p: 
         return Call::Refused(22);
     };
     let slot = table::read_entry(table, k);
-    let ours = slot.own;
-    let asked = slot.peer;
-    if !judging::is_among(id, asked) {
+    let peer = slot.peer;
+    let answered = sides::operation_of(id, peer);
+    if answered == 0 {
         return Call::Refused(24); // no such peer invoke
     }
-    let answered = judging::waiting_operation(id, asked);
     if !parameters::suits::suits_result_written(answered, p) {
         return Call::Refused(25); // parameter of the result
     }
@@ -158,10 +147,9 @@ pub fn decide_result(table: &[u8], room: usize, flag: u8, value: u8, id: i8, p: 
     }
     Call::Goes {
         entry: k,
-        slot: Slot {
-            open: slot.open,
-            own: ours,
-            peer: Invoke::Absent,
+        change: Change::Clears {
+            ours: false, // answered by a result
+            id: id,
         },
         operation: answered,
     }
@@ -188,9 +176,8 @@ pub fn decide_error(
         return Call::Refused(22);
     };
     let slot = table::read_entry(table, k);
-    let own = slot.own;
     let peer = slot.peer;
-    if !judging::is_among(id, peer) {
+    if !sides::is_among(id, peer) {
         return Call::Refused(24);
     }
     if !parameters::suits::is_none_or_one(p) {
@@ -205,10 +192,9 @@ pub fn decide_error(
     }
     Call::Goes {
         entry: k,
-        slot: Slot {
-            open: slot.open,
-            own: own,
-            peer: Invoke::Absent,
+        change: Change::Clears {
+            ours: false, // answered by an error
+            id: id,
         },
         operation: 0,
     }
@@ -228,11 +214,7 @@ pub fn decide_release(table: &[u8], room: usize, flag: u8, value: u8) -> Call
     }
     Call::Goes {
         entry: k,
-        slot: Slot {
-            open: false,
-            own: Invoke::Absent,
-            peer: Invoke::Absent,
-        },
+        change: Change::Closes,
         operation: 0,
     }
 }

@@ -15,8 +15,8 @@ use Rattle.components.specs.declared.shown.Shown.{Shown}
 use Rattle.components.specs.declared.facility.Reading.{Reading}
 use Rattle.components.proofs.Determined.{reading-determined, text-determined}
 use Rattle.octets.proofs.Determined.{found-determined}
-use Rattle.table.specs.Table.{Entry}
-use Rattle.table.proofs.Determined.{slot-determined}
+use Rattle.table.specs.Change.{Change}
+use Rattle.table.proofs.Determined.{change-determined}
 use Rattle.components.specs.Shows.{ShownComponent, Shows}
 use Rattle.deciding.specs.Decision.{withReject, onReject, released, taken}
 use Rattle.deciding.specs.Seen.{toldSeen, ToldWithin, actSeen, ActWithin, decisionSeen, DecisionWithin}
@@ -63,7 +63,7 @@ on-inj e = cc
 released-inj : {a b : Shows} {p o : Option (Taken (List ℕ))} → released a p ≡ released b o → (a ≡ b) × (p ≡ o)
 released-inj e = (cc, cc)
 
-taken-inj : {z w : Entry} {a b : Shows} → taken z a ≡ taken w b → (z ≡ w) × (a ≡ b)
+taken-inj : {z w : Change} {a b : Shows} → taken z a ≡ taken w b → (z ≡ w) × (a ≡ b)
 taken-inj e = (cc, cc)
 
 act-determined : (s : List ℕ) (x y : Told) (a b : Act) → ActWithin s a x → ActWithin s b y → actSeen s a (toldSeen s x) ≡ actSeen s b (toldSeen s y)
@@ -110,7 +110,7 @@ act-determined s x y (Act.Taken z) Act.OnReject h k e c d = (cc, cc)
 act-determined s x y (Act.Taken z) (Act.Released o) h k e c d = (cc, cc)
 act-determined s x y (Act.Taken z) (Act.Taken w) h k e c d =
     let f = taken-inj e in
-    (ap Act.Taken (slot-determined z w (f .0)), told-determined s x y c d (f .1))
+    (ap Act.Taken (change-determined z w (f .0)), told-determined s x y c d (f .1))
 
 pub decision-determined : (s : List ℕ) (r q : Decision) → DecisionWithin s r → DecisionWithin s q → decisionSeen s r ≡ decisionSeen s q → r ≡ q
 decision-determined s r q a b e =

@@ -1,3 +1,4 @@
 mod Paths
 pub mod Determined
 pub mod StepLaws
+pub mod Keeps

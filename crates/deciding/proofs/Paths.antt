@@ -25,13 +25,13 @@ use Rattle.messages.specs.Types.{isKnown}
 use Rattle.messages.proofs.TypeLaws.{unknown}
 use Rattle.messages.specs.Scan.{required, firstTaken}
 use Rattle.table.specs.Table.{Entry, entryAt, valid}
-use Rattle.table.proofs.TableLaws.{valid-each}
+use Rattle.table.specs.Change.{opens}
 use Rattle.judging.specs.StepSix.{Judged, judgeInvoke, judgeResult, judgeError}
 use Rattle.judging.specs.Seen.{JudgementText}
 use Rattle.judging.specs.declared.Judgement.{Judgement}
 use Rattle.components.specs.Shows.{Shows}
 use Rattle.deciding.specs.Decision.{Decision, silent, withCause, withReject, onReject, released, taken, shownBy}
-use Rattle.deciding.specs.Steps.{firstOctet, pickedEntry, replyFirst, notOpen, stepThree, opened, shown, onJudged, stepSix, fiveAndSix, fourToSix, exceptInvoke, onRelease, byType, decide}
+use Rattle.deciding.specs.Steps.{firstOctet, pickedEntry, replyFirst, notOpen, stepThree, shown, onJudged, stepSix, fiveAndSix, fourToSix, exceptInvoke, onRelease, byType, decide}
 use Rattle.deciding.specs.Seen.{toldSeen, actSeen, ActWithin, decisionSeen, DecisionWithin, fromType, fromEntry, Ready}
 use Rattle.deciding.specs.declared.Told.{Told}
 use Rattle.deciding.specs.declared.Act.{Act}
@@ -48,7 +48,7 @@ shown-part (Reject id tag problem) s a e h l k = refl
 -- a text is told of a component whatever its id is, and wherever its parameter was found
 same-text : (c d : Component) (v : Judgement) → extensible d ≡ extensible c → parameterOf d ≡ parameterOf c → JudgementText c v → JudgementText d v
 same-text c d (Judgement.Problem tag number) e p h = tt
-same-text c d (Judgement.Accepted slot text) e p h = rw (e, p) h
+same-text c d (Judgement.Accepted change text) e p h = rw (e, p) h
 
 result-carries : (i j : ℤ) (o : Option ℕ) (p q : List ℕ) → extensible (result i o p) ≡ extensible (result j o q)
 result-carries i j none p q = refl
@@ -91,7 +91,7 @@ six-reject e id tag number behind = refl
 
 -- step 5: what is found in the Facility value, which has its places in the octets behind the type
 module _ (e : Entry) (s : List ℕ) (a end : ℕ) where
-  pub five-empty : empty ≡ facility (between a end s) → taken (opened e) none ≡ fiveAndSix e (facility (between a end s)) (drop end s)
+  pub five-empty : empty ≡ facility (between a end s) → taken opens none ≡ fiveAndSix e (facility (between a end s)) (drop end s)
   unfolding fiveAndSix
   five-empty q = rw (← q)
 
@@ -141,7 +141,7 @@ act-told s (Act.WithCause number) told h = rw (h .0)
 act-told s (Act.WithReject id tag number) told h = rw h
 act-told s Act.OnReject told h = refl
 act-told s (Act.Released cause) told h = refl
-act-told s (Act.Taken slot) told h = refl
+act-told s (Act.Taken change) told h = refl
 
 pub shown-told : (s : List ℕ) (d : Made) → DecisionWithin s d → toldSeen s (d .told) ≡ shownBy (decisionSeen s d)
 shown-told s d h = act-told s (d .act) (d .told) (h .1)
@@ -252,4 +252,4 @@ module _ (t m : List ℕ) (room : ℕ) where
             goes-on = rw (v, le-leb 12 room r, le-leb (length m) 255 l, le-leb 2 (length m) n, eq-eqb (discriminator (firstOctet m)) 11 d)
 
             pub ready : value (firstOctet m) < 7 → Ready t m room
-            ready w = (valid-each t v .0, (r, (n, w)))
+            ready w = (v, (r, (n, w)))

@@ -5,7 +5,7 @@ use mathlib.Core.Option.{Option, none}
 use lib.IntN.{ℤ}
 use Rattle.octets.specs.Reader.{Taken}
 use Rattle.components.specs.Shows.{Shows}
-use Rattle.table.specs.Table.{Entry}
+use Rattle.table.specs.Change.{Change}
 
 pub data Decision : Type 0 where
   -- "1 ignored", "6, 7 too long; other protocol", and the refusals 28 and 27
@@ -18,8 +18,8 @@ pub data Decision : Type 0 where
   onReject : (shown : Shows) → Decision
   -- "5 released by the network", with the contents of the 08 and what stands behind them
   released : (shown : Shows) (cause : Option (Taken (List ℕ))) → Decision
-  -- "0 taken", with the entry as it becomes
-  taken : (entry : Entry) (shown : Shows) → Decision
+  -- "0 taken", with the change of its entry
+  taken : (change : Change) (shown : Shows) → Decision
 
 abbrev pub shownBy : Decision → Shows
 shownBy (silent code) = none
@@ -27,4 +27,4 @@ shownBy (withCause number) = none
 shownBy (withReject id tag number) = none
 shownBy (onReject shown) = shown
 shownBy (released shown cause) = shown
-shownBy (taken entry shown) = shown
+shownBy (taken change shown) = shown

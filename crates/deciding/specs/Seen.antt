@@ -14,8 +14,9 @@ use Rattle.components.specs.Facility.{facility}
 use Rattle.messages.specs.Layout.{value, flag}
 use Rattle.messages.specs.Scan.{firstTaken}
 use Rattle.octets.specs.Seen.{partFound, PartWithin}
-use Rattle.table.specs.Table.{Entry, imageLength, entryAt}
-use Rattle.table.specs.Seen.{slotSeen}
+use Rattle.table.specs.Table.{Entry, entryAt, valid, holds}
+use Rattle.table.specs.Change.{changed}
+use Rattle.table.specs.Seen.{changeSeen}
 use Rattle.components.specs.Shows.{Shows}
 use Rattle.deciding.specs.Decision.{shownBy, silent, withCause, withReject, onReject, released, taken}
 use Rattle.deciding.specs.Decision as spec
@@ -39,7 +40,7 @@ actSeen s (Act.WithCause number) shown = withCause number
 actSeen s (Act.WithReject id tag number) shown = withReject (idSeen id) tag number
 actSeen s Act.OnReject shown = onReject shown
 actSeen s (Act.Released cause) shown = released shown (partFound s cause)
-actSeen s (Act.Taken slot) shown = taken (slotSeen slot) shown
+actSeen s (Act.Taken change) shown = taken (changeSeen change) shown
 
 abbrev pub decisionSeen : List ℕ → Decision → spec.Decision
 decisionSeen s d = actSeen s (d .act) (toldSeen s (d .told))
@@ -51,7 +52,7 @@ ActWithin s (Act.WithCause number) told = (told ≡ Told.Nothing) × (number < 1
 ActWithin s (Act.WithReject id tag number) told = told ≡ Told.Nothing
 ActWithin s Act.OnReject told = Unit {0}
 ActWithin s (Act.Released cause) told = PartWithin s cause
-ActWithin s (Act.Taken slot) told = Unit {0}
+ActWithin s (Act.Taken change) told = Unit {0}
 
 abbrev pub DecisionWithin : List ℕ → Decision → Type 0
 DecisionWithin s d = ToldWithin s (d .told) × ActWithin s (d .act) (d .told)
@@ -83,7 +84,7 @@ actsNot (Act.WithCause number) = false
 actsNot (Act.WithReject id tag number) = false
 actsNot Act.OnReject = false
 actsNot (Act.Released cause) = false
-actsNot (Act.Taken slot) = false
+actsNot (Act.Taken change) = false
 
 abbrev pub isSilent : Decision → Bool
 isSilent d = actsNot (d .act)
@@ -100,10 +101,19 @@ fromEntry table m =
     unless (not (eqb (value (firstOctet m)) 7)) (silent 1)
     (fromType (entryAt table (pickedEntry m)) (flag (firstOctet m)) (typeOctet m) (drop 2 m))
 
--- whoever acts otherwise finds an image of full length, room for any reply, and one of the fourteen entries
+-- whoever acts otherwise finds a sound image, room for any reply, and one of the fourteen entries
 abbrev pub Ready : List ℕ → List ℕ → ℕ → Type 0
-Ready table m room = (length table ≡ imageLength) × ((12 ≤ room) × ((2 ≤ length m) × (value (firstOctet m) < 7)))
+Ready table m room = (valid table ≡ true) × ((12 ≤ room) × ((2 ≤ length m) × (value (firstOctet m) < 7)))
 
 -- a decision that says what the definition does
 abbrev pub Decides : spec.Decision → List ℕ → Decision → Type 0
 Decides definition s d = (decisionSeen s d ≡ definition) × DecisionWithin s d
+
+-- the change of what is taken leaves an open entry, which an image can hold
+abbrev pub Keeps : Entry → spec.Decision → Type 0
+Keeps e (silent code) = Unit {0}
+Keeps e (withCause number) = Unit {0}
+Keeps e (withReject id tag number) = Unit {0}
+Keeps e (onReject shown) = Unit {0}
+Keeps e (released shown cause) = Unit {0}
+Keeps e (taken change shown) = (holds (changed e change) ≡ true) × (changed e change .isOpen ≡ true)

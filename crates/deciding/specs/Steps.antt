@@ -16,6 +16,7 @@ use Rattle.messages.specs.Layout.{discriminator, value, flag, sentFirst, releas
 use Rattle.messages.specs.Types.{isKnown}
 use Rattle.messages.specs.Scan.{required, firstTaken}
 use Rattle.table.specs.Table.{Entry, entryNumber, entryAt, valid}
+use Rattle.table.specs.Change.{opens}
 use Rattle.judging.specs.StepSix.{Judged, problem, accepted, judgeInvoke, judgeResult, judgeError}
 use Rattle.components.specs.Shows.{Shows}
 use Rattle.deciding.specs.Decision.{Decision, silent, withCause, withReject, onReject, released, taken, shownBy}
@@ -74,18 +75,14 @@ abbrev pub stepFour : Answer (Taken (List ℕ)) → (List ℕ → List ℕ → D
 stepFour (fault number) next = withCause number
 stepFour (sound g) next = next (g .value) (g .rest)
 
--- the entry is open, where it wasn't
-abbrev pub opened : Entry → Entry
-opened e = record { isOpen = true; own = e .own; peer = e .peer }
-
 -- "5. An empty Facility value is taken with nothing shown. Otherwise: .." "Octets left after it: cause 29" "Under outer tag A4
 -- every fault but the cause 29 gives verdict 4." What comes next is given the component.
-abbrev pub stepFive : Entry → Finding → (Component → Decision) → Decision
-stepFive e empty next = taken (opened e) none
-stepFive e (shows c) next = next c
-stepFive e (general number id) next = withReject id generalProblem number
-stepFive e leftOver next = withCause 29
-stepFive e faultyReject next = onReject none
+abbrev pub stepFive : Finding → (Component → Decision) → Decision
+stepFive empty next = taken opens none
+stepFive (shows c) next = next c
+stepFive (general number id) next = withReject id generalProblem number
+stepFive leftOver next = withCause 29
+stepFive faultyReject next = onReject none
 
 abbrev pub shown : Component → List ℕ → Shows
 shown c behind = some (record { component = c; behind = behind })
@@ -93,7 +90,7 @@ shown c behind = some (record { component = c; behind = behind })
 -- "6." A problem is told with the invoke's id.
 abbrev pub onJudged : Judged → ℤ → Component → List ℕ → Decision
 onJudged (problem tag number) id c behind = withReject (some id) tag number
-onJudged (accepted e) id c behind = taken e (shown c behind)
+onJudged (accepted change) id c behind = taken change (shown c behind)
 
 unfoldable pub stepSix : Entry → Component → List ℕ → Decision
 stepSix e (invoke id linked operation p) behind = onJudged (judgeInvoke e id linked operation p) id (invoke id linked operation p) behind
@@ -103,7 +100,7 @@ stepSix e (reject id tag number) behind = onReject (shown (reject id tag number)
 
 -- steps 5 and 6, and 4 to 6
 unfoldable pub fiveAndSix : Entry → Finding → List ℕ → Decision
-fiveAndSix e found behind = stepFive e found (λ c. stepSix e c behind)
+fiveAndSix e found behind = stepFive found (λ c. stepSix e c behind)
 
 unfoldable pub fourToSix : Entry → ℕ → List ℕ → Decision
 fourToSix e type s = stepFour (required type s) (λ v behind. fiveAndSix e (facility v) behind)

@@ -6,6 +6,7 @@ use messages::layout::MessageType;
 use octets::MaybePart;
 use parameters::text::Ussd;
 use places::Id;
+use table::Change;
 use table::Slot;
 ghost use mathlib.Core.Path.{_≡_};
 ghost use mathlib.Core.Bool.{false};
@@ -40,7 +41,7 @@ pub enum Act {
     WithReject { id: Id, tag: u8, number: u8 },
     OnReject,
     Released(MaybePart),
-    Taken(Slot),
+    Taken(Change),
 }
 
 // The case, and what is shown: nothing, where the case shows nothing.
@@ -72,9 +73,9 @@ fn rule(s: &[u8], judgement: Judgement, id: i8, shown: Shown, end: usize) -> Dec
                 number: number,
             });
         }
-        Judgement::Accepted { slot, text } => {
+        Judgement::Accepted { change, text } => {
             return Decision {
-                act: Act::Taken(slot),
+                act: Act::Taken(change),
                 told: Told::Is {
                     shown: shown,
                     end: end,
@@ -139,15 +140,9 @@ fn weigh(slot: Slot, s: &[u8], start: usize, end: usize) -> Decision
     requires { ⌜ (start ≤ end) × (end ≤ length (now s)) ⌝ }
     ensures decides { λ r. ⌜ Decides (fiveAndSix (slotSeen slot) (facility (between start end (now (s .entry)))) (drop end (now (s .entry)))) (now (s .entry)) r ⌝ }
 {
-    let own = slot.own;
-    let peer = slot.peer;
     match components::facility::read_facility(&s[start..end]) {
         Reading::Empty => {
-            return untold(Act::Taken(Slot {
-                open: true,
-                own: own,
-                peer: peer,
-            }));
+            return untold(Act::Taken(Change::Opens));
         }
         Reading::Shows(shown) => {
             return weigh_component(slot, shown, s, end);

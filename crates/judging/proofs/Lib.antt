@@ -1,3 +1,4 @@
-pub mod Paths
 pub mod Determined
 pub mod Worked
+pub mod Walk
+mod Paths

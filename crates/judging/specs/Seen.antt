@@ -1,27 +1,26 @@
 -- What the code's answers mean, and what is promised of them.
 use Prim.Native.Nat.{ℕ}
 use mathlib.Core.Path.{_≡_}
-use mathlib.Core.List.{List, []}
+use mathlib.Core.List.{List}
 use mathlib.Core.Bool.{true}
 use mathlib.Core.Option.{Option, none, some}
 use Rattle.parameters.specs.declared.text.Ussd.{Ussd}
 use lib.IntN.{ℤ}
 use Rattle.components.specs.Component.{Component, error}
 use Rattle.components.specs.Seen.{TextTold}
-use Rattle.table.specs.Table.{Waiting, Entry}
-use Rattle.table.specs.Seen.{slotSeen}
-use Rattle.judging.specs.StepSix.{Judged, problem, accepted, kept}
+use Rattle.table.specs.Seen.{changeSeen}
+use Rattle.judging.specs.StepSix.{Judged, problem, accepted}
 use Rattle.judging.specs.declared.Judgement.{Judgement}
 use Rattle.judging.specs.declared.Linked.{Linked}
 
 abbrev pub judgementSeen : Judgement → Judged
 judgementSeen (Judgement.Problem tag number) = problem tag number
-judgementSeen (Judgement.Accepted slot text) = accepted (slotSeen slot)
+judgementSeen (Judgement.Accepted change text) = accepted (changeSeen change)
 
 -- a component that is accepted is told with its text
 abbrev pub JudgementText : Component → Judgement → Type 0
 JudgementText c (Judgement.Problem tag number) = Unit {0}
-JudgementText c (Judgement.Accepted slot text) = TextTold c text
+JudgementText c (Judgement.Accepted change text) = TextTold c text
 
 abbrev pub Judges : Judged → Component → Judgement → Type 0
 Judges definition c judgement = (judgementSeen judgement ≡ definition) × JudgementText c judgement
@@ -42,7 +41,3 @@ linkedSeen (Linked.Problem number) = some number
 abbrev pub linkedNumber : Linked → ℕ
 linkedNumber Linked.Sound = 0
 linkedNumber (Linked.Problem number) = number
-
--- the entry with an invoke kept, where no other waits
-abbrev pub withOne : List Waiting → ℤ → ℕ → Entry
-withOne own id operation = record { isOpen = true; own = own; peer = kept [] id operation }

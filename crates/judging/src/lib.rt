@@ -2,20 +2,21 @@
 use components::shown::Operation;
 use parameters::text::Ussd;
 use places::Id;
-use table::Invoke;
+use table::Change;
 use table::Slot;
 ghost use mathlib.Core.Path.{_≡_};
 ghost use Rattle.places.specs.Seen.{idSeen};
 ghost use Rattle.components.specs.Component.{invoke, result};
 ghost use Rattle.components.specs.Seen.{operationSeen};
-ghost use Rattle.table.specs.Seen.{invokeSeen, slotSeen};
-ghost use Rattle.judging.specs.StepSix.{among, full, operationOf, judgeInvoke, judgeResult, judgeError, isOurs, linkedProblem};
-ghost use Rattle.judging.specs.Seen.{Judges, JudgesError, toldText, linkedSeen, linkedNumber, withOne};
+ghost use Rattle.sides.specs.Seen.{sideSeen};
+ghost use Rattle.table.specs.Seen.{slotSeen, changeSeen};
+ghost use Rattle.judging.specs.StepSix.{judgeInvoke, judgeResult, judgeError, isOurs, linkedProblem, kept};
+ghost use Rattle.judging.specs.Seen.{Judges, JudgesError, toldText, linkedSeen, linkedNumber};
 
-// What is accepted comes with the entry as it becomes, and the text that was read.
+// What is accepted comes with the change of its entry, and the text that was read.
 pub enum Judgement {
     Problem { tag: u8, number: u8 },
-    Accepted { slot: Slot, text: Ussd },
+    Accepted { change: Change, text: Ussd },
 }
 
 pub enum Linked {
@@ -23,71 +24,18 @@ pub enum Linked {
     Problem(u8),
 }
 
-// Whether the invoke with this id waits.
-pub fn is_among(id: i8, waiting: Invoke) -> bool
-    ensures { λ r. ⌜ r ≡ among id (invokeSeen waiting) ⌝ }
-{
-    match waiting {
-        Invoke::Absent => {
-            return false;
-        }
-        Invoke::Waits {
-            id: other,
-            operation: _,
-        } => {
-            return other == id;
-        }
-    }
-}
-
-// Whether there is no room for another.
-pub fn is_full(waiting: Invoke) -> bool
-    ensures { λ r. ⌜ r ≡ full (invokeSeen waiting) ⌝ }
-{
-    match waiting {
-        Invoke::Absent => {
-            return false; // there is room
-        }
-        Invoke::Waits {
-            id: _,
-            operation: _,
-        } => {
-            return true; // one is all there is room for
-        }
-    }
-}
-
-// The operation that waits under this id; 0 where none does.
-pub fn waiting_operation(id: i8, waiting: Invoke) -> u8
-    ensures { λ r. ⌜ r ≡ operationOf id (invokeSeen waiting) ⌝ }
-{
-    match waiting {
-        Invoke::Absent => {
-            return 0;
-        }
-        Invoke::Waits {
-            id: other,
-            operation,
-        } => {
-            if other == id {
-                return operation;
-            }
-            return 0;
-        }
-    }
-}
-
-// A linked id held against our outstanding invoke.
-fn judge_linked(own: Invoke, linked: Id, operation: u8) -> Linked
-    ensures { λ r. ⌜ linkedSeen r ≡ linkedProblem (invokeSeen own) (idSeen linked) operation ⌝ }
+// A linked id held against our outstanding invokes.
+fn judge_linked(own: u64, linked: Id, operation: u8) -> Linked
+    ensures { λ r. ⌜ linkedSeen r ≡ linkedProblem (sideSeen own) (idSeen linked) operation ⌝ }
 {
     let Id::Is(id) = linked else {
         return Linked::Sound;
     };
-    if !is_among(id, own) {
+    let waiting = sides::operation_of(id, own);
+    if waiting == 0 {
         return Linked::Problem(5);
     }
-    if waiting_operation(id, own) != 17 {
+    if waiting != 17 {
         return Linked::Problem(6);
     }
     if operation != 18 {
@@ -105,25 +53,18 @@ fn linked_number(linked: Linked) -> u8
     }
 }
 
-// The entry with the invoke that was taken; one that has no answer is not kept.
-fn with_peer(own: Invoke, id: i8, operation: u8) -> Slot
-    ensures { λ r. ⌜ slotSeen r ≡ withOne (invokeSeen own) id operation ⌝ }
+// The invoke that was taken waits behind the others; one that has no answer is not kept.
+fn kept(id: i8, operation: u8) -> Change
+    ensures { λ r. ⌜ changeSeen r ≡ kept id operation ⌝ }
 {
     if codes::operations::is_waited_for(operation) {
-        return Slot {
-            open: true,
-            own: own,
-            peer: Invoke::Waits {
-                id: id,
-                operation: operation,
-            },
+        return Change::Adds {
+            ours: false,
+            id: id,
+            operation: operation,
         };
     }
-    Slot {
-        open: true,
-        own: own,
-        peer: Invoke::Absent,
-    }
+    Change::Opens
 }
 
 // An Invoke.
@@ -132,13 +73,13 @@ pub fn judge_invoke(slot: Slot, id: i8, linked: Id, operation: u8, p: &[u8]) -> 
 {
     let own = slot.own;
     let peer = slot.peer;
-    if is_among(id, peer) {
+    if sides::is_among(id, peer) {
         return Judgement::Problem {
             tag: 0x81,
             number: 0, // a duplicate
         };
     }
-    if is_full(peer) {
+    if sides::is_full(peer) {
         return Judgement::Problem {
             tag: 0x81,
             number: 3,
@@ -166,7 +107,7 @@ pub fn judge_invoke(slot: Slot, id: i8, linked: Id, operation: u8, p: &[u8]) -> 
     }
     let text = read.text;
     Judgement::Accepted {
-        slot: with_peer(own, id, operation),
+        change: kept(id, operation),
         text: text,
     }
 }
@@ -204,14 +145,13 @@ pub fn judge_result(slot: Slot, id: i8, operation: Operation, p: &[u8]) -> Judge
     ensures { λ r. ⌜ Judges (judgeResult (slotSeen slot) id (operationSeen operation) (now (p .entry))) (result id (operationSeen operation) (now (p .entry))) r ⌝ }
 {
     let own = slot.own;
-    let peer = slot.peer;
-    if !is_among(id, own) {
+    let ours = sides::operation_of(id, own);
+    if ours == 0 {
         return Judgement::Problem {
             tag: 0x82,
             number: 0,
         };
     }
-    let ours = waiting_operation(id, own);
     let read = parameters::suits::suits_result_received(ours, p);
     if !(is_ours(operation, ours) & read.suited) {
         return Judgement::Problem {
@@ -221,10 +161,9 @@ pub fn judge_result(slot: Slot, id: i8, operation: Operation, p: &[u8]) -> Judge
     }
     let text = read.text;
     Judgement::Accepted {
-        slot: Slot {
-            open: slot.open,
-            own: Invoke::Absent,
-            peer: peer,
+        change: Change::Clears {
+            ours: true, // the result's
+            id: id,
         },
         text: told_text(operation, text),
     }
@@ -235,8 +174,8 @@ pub fn judge_error(slot: Slot, id: i8, code: u8) -> Judgement
     ensures { λ r. ⌜ JudgesError (judgeError (slotSeen slot) id code) id code r ⌝ }
 {
     let own = slot.own;
-    let peer = slot.peer;
-    if !is_among(id, own) {
+    let asked = sides::operation_of(id, own);
+    if asked == 0 {
         return Judgement::Problem {
             tag: 0x83,
             number: 0,
@@ -248,7 +187,6 @@ pub fn judge_error(slot: Slot, id: i8, code: u8) -> Judgement
             number: 2,
         };
     }
-    let asked = waiting_operation(id, own);
     if !codes::errors::may_return(asked, code) {
         return Judgement::Problem {
             tag: 0x83,
@@ -256,10 +194,9 @@ pub fn judge_error(slot: Slot, id: i8, code: u8) -> Judgement
         };
     }
     Judgement::Accepted {
-        slot: Slot {
-            open: slot.open, // as it was
-            own: Invoke::Absent,
-            peer: peer,
+        change: Change::Clears {
+            ours: true, // the error's
+            id: id,
         },
         text: Ussd::Refused,
     }

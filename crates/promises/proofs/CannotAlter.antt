@@ -22,8 +22,10 @@ use Rattle.messages.specs.Layout.{flag, mandatoryMissing, registerType, facilit
 use Rattle.messages.specs.Scan.{clear, required, firstTaken, contentsOf, firstWhole}
 use Rattle.messages.specs.LaterEdition.{Passed}
 use Rattle.messages.proofs.ScanLaws.{mandatory-back, release-later, laid}
+use Rattle.sides.specs.Side.{among, full, operationOf}
 use Rattle.table.specs.Table.{Entry}
-use Rattle.judging.specs.StepSix.{Judged, problem, accepted, orProblem, among, full, linkedProblem, operationOf, isOurs, judgeInvoke, judgeResult}
+use Rattle.table.specs.Change.{Change}
+use Rattle.judging.specs.StepSix.{Judged, problem, accepted, orProblem, linkedProblem, isOurs, judgeInvoke, judgeResult}
 use Rattle.codes.specs.Operations.{serves}
 use Rattle.codes.specs.Problems.{invokeProblem, resultProblem}
 use Rattle.components.specs.Shows.{ShownComponent, Shows}
@@ -66,7 +68,7 @@ unfolding suits suitsResultReceived
 suits-result q u = rw u (or-true (isEmpty q))
 
 -- step 6 looks at the parameter only to see whether it suits
-invoke-accepted : (e f : Entry) (id : ℤ) (linked : Option ℤ) (o : ℕ) (p q : List ℕ) → judgeInvoke e id linked o p ≡ accepted f → suits InvokeReceived o q ≡ true
+invoke-accepted : (e : Entry) (f : Change) (id : ℤ) (linked : Option ℤ) (o : ℕ) (p q : List ℕ) → judgeInvoke e id linked o p ≡ accepted f → suits InvokeReceived o q ≡ true
     → judgeInvoke e id linked o q ≡ accepted f
 unfolding judgeInvoke
 invoke-accepted e f id linked o p q k s = rw s (go (among id (e .peer)) (full (e .peer)) (serves o) (linkedProblem (e .own) linked o) (suits InvokeReceived o p) _ k)
@@ -81,7 +83,7 @@ invoke-accepted e f id linked o p q k s = rw s (go (among id (e .peer)) (full (e
     go false false true none true y h = h
     go false false true none false y h = cc
 
-result-accepted : (e f : Entry) (id : ℤ) (o : ℕ) (p q : List ℕ) → judgeResult e id (some o) p ≡ accepted f → eqb o 59 ≡ true → isUssd q ≡ true
+result-accepted : (e : Entry) (f : Change) (id : ℤ) (o : ℕ) (p q : List ℕ) → judgeResult e id (some o) p ≡ accepted f → eqb o 59 ≡ true → isUssd q ≡ true
     → judgeResult e id (some o) q ≡ accepted f
 unfolding judgeResult isOurs
 result-accepted e f id o p q k h u =
@@ -95,17 +97,17 @@ result-accepted e f id o p q k h u =
     go true false d x y h i = cc
     go false b d x y h i = cc
 
--- both are taken, with one entry, and each shows its component
+-- both are taken, with one change, and each shows its component
 record BothTaken (c c′ : Component) (d d′ : Decision) : Type 0 where
-  pub entry : Entry
+  pub change : Change
   pub behind : List ℕ
-  pub was : d ≡ taken entry (shown c behind)
-  pub becomes : d′ ≡ taken entry (shown c′ behind)
+  pub was : d ≡ taken change (shown c behind)
+  pub becomes : d′ ≡ taken change (shown c′ behind)
 
 both-judged : (id : ℤ) (c c′ : Component) (behind : List ℕ) (v v′ : Judged) (w : ShownComponent) → shownBy (onJudged v id c behind) ≡ some w
-    → ((f : Entry) → v ≡ accepted f → v′ ≡ accepted f) → BothTaken c c′ (onJudged v id c behind) (onJudged v′ id c′ behind)
+    → ((f : Change) → v ≡ accepted f → v′ ≡ accepted f) → BothTaken c c′ (onJudged v id c behind) (onJudged v′ id c′ behind)
 both-judged id c c′ behind (problem tag number) v′ w k h = nothing-shown k
-both-judged id c c′ behind (accepted f) v′ w k h = record { entry = f; behind = behind; was = refl; becomes = rw (h f refl) }
+both-judged id c c′ behind (accepted f) v′ w k h = record { change = f; behind = behind; was = refl; becomes = rw (h f refl) }
 
 six-later : (e : Entry) (c : Component) (q behind : List ℕ) (w : ShownComponent) → shownBy (stepSix e c behind) ≡ some w → extensible c ≡ true → isUssd q ≡ true
     → BothTaken c (withParameter q c) (stepSix e c behind) (stepSix e (withParameter q c) behind)

@@ -32,7 +32,7 @@ use Rattle.components.proofs.Determined.{reading-determined}
 use Rattle.octets.proofs.Determined.{found-determined as part-determined, read-determined}
 use Rattle.messages.specs.Layout.{mandatoryMissing}
 use Rattle.messages.proofs.Determined.{item-determined, type-determined}
-use Rattle.table.proofs.Determined.{slot-determined, named-determined}
+use Rattle.table.proofs.Determined.{named-determined}
 use Rattle.judging.proofs.Determined.{judgement-determined}
 use Rattle.deciding.proofs.Determined.{decision-determined}
 use Rattle.calling.proofs.Determined.{call-determined}
@@ -163,7 +163,7 @@ messages = (
 
 transactions : Transactions
 transactions = (
-  (λ table k. by-meaning _ _ slot-determined),
+  (λ table k r q e f. e .0 ∙ sym (f .0)),
   (
     (λ table. by-meaning _ _ named-determined),
     (

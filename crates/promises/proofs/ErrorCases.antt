@@ -13,8 +13,8 @@ use Rattle.components.specs.Facility.{afterTag, component, inside, facility}
 use Rattle.components.specs.Written.{contents}
 use Rattle.messages.specs.Layout.{sized, mandatory, facilityType, releaseFacility}
 use Rattle.messages.specs.Scan.{information, clearOf, clear, required, firstOf, firstTaken}
-use Rattle.table.specs.Table.{entryOf, soundImage, entryAt, soundEntries, valid}
-use Rattle.judging.specs.StepSix.{among, operationOf, without}
+use Rattle.sides.specs.Side.{among, operationOf, without, sideOf, soundSide}
+use Rattle.table.specs.Table.{entryOf, soundImage, entryAt, soundEntries, valid, stateOf}
 use Rattle.deciding.specs.Steps.{pickedEntry, replyFirst}
 use Rattle.promises.specs.Reaches.{inFacility, ReachesStepSix, ReachesInRelease}
 use Rattle.promises.specs.Worked.{buffer, Answers}
@@ -51,7 +51,7 @@ module _ (t : List ℕ) (image : valid t ≡ true) (isOpen : entryAt t 0 .isOpen
       }
 
 pub error-cases : ErrorCases
-unfolding listed errorsOf entryOf soundImage entryAt soundEntries valid among operationOf without pickedEntry replyFirst shortest releaseFacility contents splice facility-reaches end-reaches
+unfolding listed errorsOf entryOf soundImage sideOf stateOf soundSide entryAt soundEntries valid among operationOf without pickedEntry replyFirst shortest releaseFacility contents splice facility-reaches end-reaches
 error-cases = (
   subst (Answers 3 _) (sym (others-are-refused own11 (errorWith 72) buffer (pos 1) 72 [] refl refl refl .0 (facility-reaches own11 refl refl 72))) (refl, refl),
   (

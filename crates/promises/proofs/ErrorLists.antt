@@ -10,14 +10,16 @@ use Rattle.codes.specs.Errors.{listed, mayReturn, errorsOf, isIn}
 use Rattle.codes.specs.Problems.{errorProblem}
 use Rattle.codes.proofs.ErrorLaws.{listed-too}
 use Rattle.components.specs.Component.{error}
+use Rattle.sides.specs.Side.{among, operationOf}
 use Rattle.table.specs.Table.{Entry, entryAt}
-use Rattle.judging.specs.StepSix.{among, operationOf, withoutOwn, judgeError}
+use Rattle.table.specs.Change.{ours, clears}
+use Rattle.judging.specs.StepSix.{judgeError}
 use Rattle.deciding.specs.Decision.{withReject, taken}
 use Rattle.deciding.specs.Steps.{pickedEntry, shown, onJudged, stepSix}
 use Rattle.telephone.specs.Receive.{act}
 use Rattle.telephone.proofs.Shown.{nothing-shown}
 use Rattle.promises.specs.ErrorLists.{ShownIsInList, OthersAreRefused, ItsOwnAreShown, ErrorLists}
-use Rattle.promises.proofs.JudgedWalk.{walk-error}
+use Rattle.judging.proofs.Walk.{walk-error}
 use Rattle.promises.proofs.Reached.{fares}
 use Rattle.promises.proofs.ShownWalk.{IsShown, Good, shown-fits}
 
@@ -42,7 +44,7 @@ module _ (e : Entry) (id : ℤ) (code : ℕ) (p r : List ℕ) (a : among id (e .
   unfolding stepSix judgeError mayReturn
   not-its-own l n = rw (a, l, n)
 
-  its-own : isIn code (errorsOf (operationOf id (e .own))) ≡ true → stepSix e (error id code p) r ≡ taken (withoutOwn e id) (shown (error id code p) r)
+  its-own : isIn code (errorsOf (operationOf id (e .own))) ≡ true → stepSix e (error id code p) r ≡ taken (clears ours id) (shown (error id code p) r)
   unfolding stepSix judgeError mayReturn
   its-own y = rw (a, listed-too (operationOf id (e .own)) code y, y)
 

@@ -1,9 +1,6 @@
 mod Walk
-mod JudgedWalk
-mod Held
 mod CallFacts
 mod Silence
-mod Kept
 mod Listed
 mod RejectBack
 mod Reached
@@ -28,5 +25,9 @@ pub mod Editions
 pub mod ErrorCases
 pub mod PasswordCases
 pub mod NeverDamaged
+pub mod Apart
+pub mod WhatWaits
+pub mod Four
+pub mod FourCases
 pub mod Felt
 pub mod All

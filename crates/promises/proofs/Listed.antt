@@ -10,7 +10,7 @@ use lib.Dec.{ltb, leb, eqb}
 use Rattle.octets.specs.Reader.{Answer, fault, sound, Taken, octet, front, isEmpty, alone}
 use Rattle.octets.proofs.FaultLaws.{Faults, then-faults, check-faults, cond-faults, read-faults, octet-faults}
 use Rattle.elements.specs.Element.{missing, unreadable, refusedTag, lengthOf, twoOctets, Element, element}
-use Rattle.codes.specs.Problems.{problemTag}
+use Rattle.codes.specs.Problems.{problemTag, isProblem}
 use Rattle.places.specs.Places.{misplaced, octetIn, single, parameter, invokePlaces, coded, rejected}
 use Rattle.components.specs.Component.{Component, invoke, result, error, reject, invokeTag, resultTag, rejectTag, invokeOf, resultOf, errorOf, rejectOf}
 use Rattle.components.specs.Facility.{Finding, empty, shows, general, leftOver, faultyReject, afterTag, component, found, inside, outer, facility}
@@ -18,9 +18,9 @@ use Rattle.table.specs.Table.{Entry, entryAt}
 use Rattle.judging.specs.StepSix.{Judged, problem, accepted, judgeInvoke, judgeResult, judgeError}
 use Rattle.deciding.specs.Decision.{Decision, silent, withCause, withReject, onReject, released, taken}
 use Rattle.deciding.specs.Steps.{pickedEntry, onJudged, stepSix, fiveAndSix, decide}
-use Rattle.promises.specs.OneVerdict.{isProblem, isCause}
+use Rattle.promises.specs.OneVerdict.{isCause}
 use Rattle.promises.proofs.Walk.{walk}
-use Rattle.promises.proofs.JudgedWalk.{walk-invoke, walk-result, walk-error}
+use Rattle.judging.proofs.Walk.{walk-invoke, walk-result, walk-error}
 
 -- the faults of step 5 are 0, 1 and 2
 abbrev IsLow : ℕ → Type 0
@@ -147,7 +147,7 @@ judged-tells (accepted e) id c r h = tt
 
 six-tells : (e : Entry) (c : Component) (r : List ℕ) → Tells (stepSix e c r)
 unfolding stepSix
-six-tells e (invoke id l o p) r = judged-tells (judgeInvoke e id l o p) id (invoke id l o p) r (walk-invoke Told told e id l o p λ f. tt)
+six-tells e (invoke id l o p) r = judged-tells (judgeInvoke e id l o p) id (invoke id l o p) r (walk-invoke Told told e id l o p λ a f. tt)
 six-tells e (result id o p) r = judged-tells (judgeResult e id o p) id (result id o p) r (walk-result Told told e id o p λ a u. tt)
 six-tells e (error id k p) r = judged-tells (judgeError e id k) id (error id k p) r (walk-error Told told e id k λ a r. tt)
 six-tells e (reject id tag n) r = tt

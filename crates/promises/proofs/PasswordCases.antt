@@ -16,8 +16,8 @@ use Rattle.components.specs.Facility.{afterTag, component, inside, facility}
 use Rattle.components.specs.Written.{contents, resultFor}
 use Rattle.messages.specs.Layout.{sized, mandatory, facilityType, register, facilityMessage, releaseFacility}
 use Rattle.messages.specs.Scan.{information, clearOf, clear, required, firstOf, firstTaken}
-use Rattle.table.specs.Table.{entryOf, soundImage, entryAt, soundEntries, valid, lowestFrom, lowestClosed}
-use Rattle.judging.specs.StepSix.{among, operationOf, without}
+use Rattle.sides.specs.Side.{among, operationOf, without, sideOf, soundSide}
+use Rattle.table.specs.Table.{entryOf, soundImage, entryAt, soundEntries, valid, lowestFrom, lowestClosed, stateOf}
 use Rattle.deciding.specs.Steps.{pickedEntry, replyFirst}
 use Rattle.calling.specs.Calls.{transaction, fitting, sendBegin, sendResult}
 use Rattle.telephone.specs.Calls.{begin, result as calls-result}
@@ -51,12 +51,12 @@ digits-are-four =
     }
 
 asks : AsksPassword peer18 0 0 (pos 5)
-unfolding entryOf soundImage entryAt soundEntries valid among operationOf
+unfolding entryOf soundImage sideOf stateOf soundSide entryAt soundEntries valid among operationOf
 asks = record { image = refl; entry = 7; names = refl; isOpen = refl; waits = refl; operation = refl }
 
 module _ (octet : ℕ) where
   unfoldable facility-reaches : ReachesStepSix own17 (resultWith octet) buffer (result (pos 1) (some 17) (password octet))
-  unfolding entryOf soundImage entryAt soundEntries valid pickedEntry lengthOf element single parameter coded resultOf afterTag component inside facility sized mandatory clearOf clear required
+  unfolding entryOf soundImage sideOf stateOf soundSide among entryAt soundEntries valid pickedEntry lengthOf element single parameter coded resultOf afterTag component inside facility sized mandatory clearOf clear required
   facility-reaches =
       record {
         arrives = arrives own17 (resultWith octet) buffer refl refl refl refl refl refl;
@@ -69,7 +69,7 @@ module _ (octet : ℕ) where
       }
 
   unfoldable end-reaches : ReachesInRelease own17 (endWith octet) buffer (result (pos 1) (some 17) (password octet))
-  unfolding entryOf soundImage entryAt soundEntries valid pickedEntry lengthOf element single parameter coded resultOf afterTag component inside facility information firstOf firstTaken
+  unfolding entryOf soundImage sideOf stateOf soundSide among entryAt soundEntries valid pickedEntry lengthOf element single parameter coded resultOf afterTag component inside facility information firstOf firstTaken
   end-reaches =
       record {
         arrives = arrives own17 (endWith octet) buffer refl refl refl refl refl refl;
@@ -82,7 +82,7 @@ module _ (octet : ℕ) where
       }
 
 pub password-cases : PasswordCases
-unfolding calls-result begin sendResult sendBegin transaction fitting suits suitsInvokeWritten suitsResultWritten areDigits lengthOf element entryOf soundImage entryAt soundEntries valid lowestFrom lowestClosed among operationOf without pickedEntry replyFirst shortest register facilityMessage releaseFacility contents resultFor splice facility-reaches end-reaches
+unfolding calls-result begin sendResult sendBegin transaction fitting suits suitsInvokeWritten suitsResultWritten areDigits lengthOf element entryOf soundImage sideOf stateOf soundSide entryAt soundEntries valid lowestFrom lowestClosed among operationOf without pickedEntry replyFirst shortest register facilityMessage releaseFacility contents resultFor splice facility-reaches end-reaches
 password-cases = (
   others-are-not-written peer18 buffer spaces 0 0 (pos 5) asks spaces-are-none,
   (

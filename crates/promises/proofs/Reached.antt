@@ -5,16 +5,17 @@ use mathlib.Core.List.{List}
 use mathlib.Core.Bool.{true, false}
 use lib.ListN.{length, drop}
 use lib.Dec.{leb, eqb}
-use borrow.Author.Tests.{leb-true, le-leb, eqb-false, eq-eqb, ne-eqb}
+use borrow.Author.Tests.{leb-true, le-leb, lt-leb, ltb-true, eqb-false, eq-eqb, ne-eqb}
 use Rattle.components.specs.Component.{Component}
 use Rattle.messages.specs.Layout.{discriminator, value}
 use Rattle.messages.specs.Scan.{firstTaken}
+use Rattle.sides.specs.Side.{Waiting, full}
 use Rattle.table.specs.Table.{entryAt, valid}
 use Rattle.deciding.specs.Decision.{Decision, released, shownBy}
 use Rattle.deciding.specs.Steps.{firstOctet, pickedEntry, exceptInvoke, stepSix, fiveAndSix, fourToSix, onRelease, decide}
 use Rattle.deciding.proofs.StepLaws.{onType, GoesOn, further, decide-further}
 use Rattle.telephone.specs.Receive.{act, receive}
-use Rattle.promises.specs.Reaches.{Arrives, Passes, inRegister, inFacility, ReachesStepSix, ReachesInRelease}
+use Rattle.promises.specs.Reaches.{fewerThanFour, Arrives, Passes, inRegister, inFacility, ReachesStepSix, ReachesInRelease}
 
 module _ (t m b : List ℕ) where
   -- a message that is given octet by octet arrives by computation
@@ -57,3 +58,8 @@ fares t m b c d j = (
   λ r. ap (act t m b) (reached t m b c r ∙ j (r .behind)),
   λ r. ap (act t m b) (released-at t m b c r ∙ ap (λ (x : Decision). released (exceptInvoke (shownBy x)) (firstTaken 0x08 (drop 2 m))) (j (r .behind))),
 )
+
+-- fewer than four leave a place
+pub room-left : (ws : List Waiting) → fewerThanFour ws ≡ true → full ws ≡ false
+unfolding full
+room-left ws h = lt-leb 4 (length ws) (ltb-true (length ws) 4 h)

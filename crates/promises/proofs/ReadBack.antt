@@ -25,8 +25,8 @@ use Rattle.components.proofs.ReadBack.{read-back, answer-writable}
 use Rattle.messages.specs.Layout.{registerType, facilityType, sentFirst, register, facilityMessage}
 use Rattle.messages.specs.Scan.{required}
 use Rattle.sending.proofs.SentBack.{register-found, facility-found}
+use Rattle.sides.specs.Side.{among, full, operationOf}
 use Rattle.table.specs.Table.{named, entryAt, valid, lowestClosed}
-use Rattle.judging.specs.StepSix.{among, full, operationOf}
 use Rattle.calling.specs.Calls.{Sending, orRefused, transaction, sendBegin, sendInvoke, sendResult, sendError}
 use Rattle.telephone.specs.Calls.{callOutcome, noValue, begin, invokeWithin, result, error as calls-error}
 use Rattle.telephone.proofs.Paths.{fitting-is}
@@ -134,7 +134,7 @@ module _ (t p : List ℕ) (room : ℕ) (id : ℤ) (i : SFits w8 id) (s : Sending
         passed (valid t) 28 _ s e λ e₁ f₁.
         passed (begins o) 20 _ s f₁ λ e₂ f₂.
         through (transaction t flag value) _ s f₂ λ k e₃ f₃.
-        passed (not (full (entryAt t k .own))) 23 _ s f₃ λ e₄ f₄.
+        passed (not (full (entryAt t k .own) || among id (entryAt t k .own))) 23 _ s f₃ λ e₄ f₄.
         passed (suits InvokeWritten o p) 25 _ s f₄ λ e₅ f₅.
         in-facility (sentFirst flag value) (invoke id none o p) (i, (tt, invoke-parameter o p e₅)) (sym (ap (λ (z : Sending). z .message) (fitting-is room _ s f₅)))
 
@@ -162,10 +162,10 @@ module _ (t p : List ℕ) (room : ℕ) (id : ℤ) (i : SFits w8 id) (s : Sending
         in-facility (sentFirst flag value) (error id code p) (i, none-or p (anyOne p) (λ h. h) e₅) (sym (ap (λ (z : Sending). z .message) (fitting-is room _ s f₅)))
 
 -- a call that succeeds leaves its message at the front of the buffer
-module _ (t b : List ℕ) (which : Option ℕ) (value : Sending → ℕ) where
-  carried : {C : Type 0} (o : Answer Sending) → Fine t (length b) which o → callOutcome t b value o .code ≡ 0 → ((s : Sending) → o ≡ sound s → C) → C
-  carried (fault n) h z next = absurd (false≢true (rw z at h))
-  carried (sound s) h z next = next s refl
+module _ (t b : List ℕ) (value : Sending → ℕ) where
+  carried : {C : Type 0} (which : Option ℕ) (said : Type 0) (o : Answer Sending) → Fine t (length b) which said o → callOutcome t b value o .code ≡ 0 → ((s : Sending) → o ≡ sound s → C) → C
+  carried which said (fault n) h z next = absurd (false≢true (rw z at h))
+  carried which said (sound s) h z next = next s refl
 
   at-front : (first type : ℕ) (o : Answer Sending) (s : Sending) (c : Component) → o ≡ sound s → Laid first type (s .message) c → Carries first type (callOutcome t b value o) c
   at-front first type o s c e l = rw e (record { body = l .body; front = front-is b (s .message) ∙ l .is; behind = l .behind; found = l .found; back = l .back })
@@ -177,17 +177,17 @@ pub call-reads-back : CallReadsBack
 unfolding begin invokeWithin result calls-error
 call-reads-back t b p flag value operation code id i =
     let n = length b in (
-      (λ z. carried t b (lowestClosed t) (λ s. s .entry) (sendBegin t n operation id p) (fine-begin t n operation id p) z λ s e.
+      (λ z. carried t b (λ s. s .entry) (lowestClosed t) _ (sendBegin t n operation id p) (fine-begin t n operation id p) z λ s e.
           subst (λ (o : Answer Sending). Carries (sentFirst 1 (callOutcome t b (λ x. x .entry) o .value)) registerType (callOutcome t b (λ x. x .entry) o) (invoke id none operation p)) (sym e)
-          (at-front t b (lowestClosed t) (λ x. x .entry) _ registerType (sound s) s _ refl (begin-laid t p n id i s operation e))),
+          (at-front t b (λ x. x .entry) _ registerType (sound s) s _ refl (begin-laid t p n id i s operation e))),
       (
-        (λ z. carried t b (named flag value) noValue (sendInvoke t n flag value operation id p) (fine-invoke t n flag value operation id p) z λ s e.
-            at-front t b (named flag value) noValue _ facilityType _ s _ e (invoke-laid t p n id i s flag value operation e)),
+        (λ z. carried t b noValue (named flag value) _ (sendInvoke t n flag value operation id p) (fine-invoke t n flag value operation id p) z λ s e.
+            at-front t b noValue _ facilityType _ s _ e (invoke-laid t p n id i s flag value operation e)),
         (
-          (λ z k m. carried t b (named flag value) noValue (sendResult t n flag value id p) (fine-result t n flag value id p) z λ s e.
-              at-front t b (named flag value) noValue _ facilityType _ s _ e (result-laid t p n id i s flag value e k m)),
-          λ z. carried t b (named flag value) noValue (sendError t n flag value id code p) (fine-error t n flag value id code p) z λ s e.
-              at-front t b (named flag value) noValue _ facilityType _ s _ e (error-laid t p n id i s flag value code e),
+          (λ z k m. carried t b noValue (named flag value) _ (sendResult t n flag value id p) (fine-result t n flag value id p) z λ s e.
+              at-front t b noValue _ facilityType _ s _ e (result-laid t p n id i s flag value e k m)),
+          λ z. carried t b noValue (named flag value) _ (sendError t n flag value id code p) (fine-error t n flag value id code p) z λ s e.
+              at-front t b noValue _ facilityType _ s _ e (error-laid t p n id i s flag value code e),
         ),
       ),
     )

@@ -18,7 +18,7 @@ use Rattle.octets.proofs.ReaderLaws.{sound-inj, through, passed, rest-octets, o
 use Rattle.elements.specs.Element.{Element, missing, unreadable, refusedTag, lengthOf, element}
 use Rattle.elements.proofs.ElementLaws.{length-local}
 use Rattle.codes.specs.Ids.{idOf}
-use Rattle.codes.specs.Problems.{generalProblem, invokeProblem, resultProblem, errorProblem, problemTag}
+use Rattle.codes.specs.Problems.{generalProblem, invokeProblem, resultProblem, errorProblem, problemTag, isProblem}
 use Rattle.places.specs.Places.{misplaced, single, invokePlaces, coded, rejected, parameter}
 use Rattle.components.specs.Component.{Component, invoke, result, error, reject, rejectTag, invokeTag, resultTag, invokeOf, resultOf, errorOf, rejectOf}
 use Rattle.components.specs.Facility.{Finding, empty, shows, general, leftOver, faultyReject, idRead, found, afterTag, component, inside, outer, facility}
@@ -34,11 +34,13 @@ use Rattle.deciding.specs.Decision.{Decision, silent, withCause, withReject, on
 use Rattle.deciding.specs.Steps.{pickedEntry, replyFirst, onJudged, stepSix, fiveAndSix, decide}
 use Rattle.telephone.specs.Receive.{verdictOf, act, receive}
 use Rattle.telephone.proofs.OutcomeLaws.{front-is}
-use Rattle.promises.specs.OneVerdict.{isProblem}
 use Rattle.promises.specs.ReadBack.{CarriesReject, RejectReadsBack}
 use Rattle.promises.proofs.Silence.{Says, decide-says}
 use Rattle.promises.proofs.Walk.{walk}
-use Rattle.promises.proofs.JudgedWalk.{walk-invoke, walk-result, walk-error}
+use Rattle.codes.specs.Operations.{waits}
+use Rattle.table.specs.Change.{peers, opens, adds}
+use Rattle.table.proofs.ChangeLaws.{SaidIn}
+use Rattle.judging.proofs.Walk.{walk-invoke, walk-result, walk-error}
 
 -- the first octet of octets
 first-octet : (s : List ℕ) → Octets s → getD s 0 0 < 256
@@ -149,7 +151,7 @@ facility-has-id s h =
 -- step 6 tells its problems under the four tags
 abbrev Tagged : Judged → Type 0
 Tagged (problem tag number) = problemTag tag ≡ true
-Tagged (accepted e) = Unit {0}
+Tagged (accepted change) = SaidIn change
 
 tagged : (tag number : ℕ) → isProblem tag number ≡ true → Tagged (problem tag number)
 tagged tag number h = go (eqb tag generalProblem) (eqb tag invokeProblem) (eqb tag resultProblem) (eqb tag errorProblem) _ _ _ _ refl refl refl refl h
@@ -162,22 +164,27 @@ tagged tag number h = go (eqb tag generalProblem) (eqb tag invokeProblem) (eqb t
     go false false false true k l m n x y z w t = ap problemTag (eqb-true tag errorProblem w)
     go false false false false k l m n x y z w t = absurd (false≢true t)
 
--- a decision to send a Reject that can be written
-abbrev Rejects : Decision → Type 0
+-- the id that is kept is the invoke's
+kept-said : (id : ℤ) (o : ℕ) (b : Bool) → SFits w8 id → SaidIn (cond b (adds peers id o) opens)
+kept-said id o true h = h
+kept-said id o false h = tt
+
+-- a decision to send a Reject that can be written, or to keep an id that can be
+abbrev pub Rejects : Decision → Type 0
 Rejects (silent code) = Unit {0}
 Rejects (withCause number) = Unit {0}
 Rejects (withReject id tag number) = IsSomeId id × (problemTag tag ≡ true)
 Rejects (onReject shown) = Unit {0}
 Rejects (released shown cause) = Unit {0}
-Rejects (taken entry shown) = Unit {0}
+Rejects (taken change shown) = SaidIn change
 
 judged-rejects : (j : Judged) (id : ℤ) (c : Component) (r : List ℕ) → SFits w8 id → Tagged j → Rejects (onJudged j id c r)
 judged-rejects (problem tag n) id c r h k = (h, k)
-judged-rejects (accepted e) id c r h k = tt
+judged-rejects (accepted change) id c r h k = k
 
 six-rejects : (e : Entry) (c : Component) (r : List ℕ) → HasId c → Rejects (stepSix e c r)
 unfolding stepSix
-six-rejects e (invoke id linked o p) r h = judged-rejects (judgeInvoke e id linked o p) id _ r h (walk-invoke Tagged tagged e id linked o p λ f. tt)
+six-rejects e (invoke id linked o p) r h = judged-rejects (judgeInvoke e id linked o p) id _ r h (walk-invoke Tagged tagged e id linked o p λ a f. kept-said id o (waits o) h)
 six-rejects e (result id o p) r h = judged-rejects (judgeResult e id o p) id _ r h (walk-result Tagged tagged e id o p λ a u. tt)
 six-rejects e (error id code p) r h = judged-rejects (judgeError e id code) id _ r h (walk-error Tagged tagged e id code λ a r. tt)
 six-rejects e (reject id tag n) r h = tt
@@ -207,7 +214,7 @@ value-octets type s g e h =
     let o = laid-octets (eqb type registerType) (f .value) (f .rest) (subst Octets (mandatory-is type s (f .value) (f .rest) p) h) in
     subst Octets (ap (λ (y : Taken (List ℕ)). y .value) (sound-inj z)) o
 
-decide-rejects : (t m : List ℕ) (room : ℕ) → Octets m → Rejects (decide t m room)
+pub decide-rejects : (t m : List ℕ) (room : ℕ) → Octets m → Rejects (decide t m room)
 decide-rejects t m room h =
     walk Rejects (λ code k. tt) (λ n k. tt) (λ shown cause. tt) t m room
     (λ v n type g q. five-rejects (entryAt t (pickedEntry m)) (facility (g .value)) (g .rest) (facility-has-id (g .value) (value-octets type (drop 2 m) g q (octets-drop 2 m h))))
@@ -230,7 +237,7 @@ module _ (t m b : List ℕ) where
       }
   rejected-back (onReject shown) s w e = absurd (omega arith)
   rejected-back (released shown cause) s w e = absurd (omega arith)
-  rejected-back (taken entry shown) s w e = absurd (omega arith)
+  rejected-back (taken change shown) s w e = absurd (omega arith)
 
 pub reject-reads-back : RejectReadsBack
 unfolding receive act

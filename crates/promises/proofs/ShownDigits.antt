@@ -16,8 +16,10 @@ use Rattle.parameters.specs.Parameter.{password}
 use Rattle.parameters.specs.Suits.{suits, suitsResultReceived, ResultReceived}
 use Rattle.components.specs.Component.{Component, invoke, result, error, reject, resultTag}
 use Rattle.components.specs.Shows.{Shows}
+use Rattle.sides.specs.Side.{among, operationOf}
 use Rattle.table.specs.Table.{Entry, entryAt}
-use Rattle.judging.specs.StepSix.{among, operationOf, withoutOwn, isOurs, judgeResult}
+use Rattle.table.specs.Change.{ours, clears}
+use Rattle.judging.specs.StepSix.{isOurs, judgeResult}
 use Rattle.deciding.specs.Decision.{withReject, taken}
 use Rattle.deciding.specs.Steps.{pickedEntry, shown, onJudged, stepSix}
 use Rattle.showing.specs.Views.{standing, viewOf, componentView}
@@ -29,7 +31,7 @@ use Rattle.telephone.proofs.Stands.{stands}
 use Rattle.promises.specs.Reaches.{outstanding, takenOrReleased}
 use Rattle.promises.specs.Passwords.{FourDigits, ShownAreDigits, DigitsInC, OthersAreNotShown, DigitsAreShown}
 use Rattle.promises.proofs.FourDigits.{are-four, is-password, no-password}
-use Rattle.promises.proofs.JudgedWalk.{walk-result}
+use Rattle.judging.proofs.Walk.{walk-result}
 use Rattle.promises.proofs.Reached.{fares}
 use Rattle.promises.proofs.ShownWalk.{IsShown, Good, shown-fits}
 
@@ -93,7 +95,7 @@ module _ (e : Entry) (id : ℤ) (p r : List ℕ) (a : among id (e .own) ≡ true
   unfolding stepSix judgeResult
   not-digits o n = rw (a, received-is _ p w, no-password p n, and-false)
 
-  are-digits : FourDigits p → stepSix e (result id (some 17) p) r ≡ taken (withoutOwn e id) (shown (result id (some 17) p) r)
+  are-digits : FourDigits p → stepSix e (result id (some 17) p) r ≡ taken (clears ours id) (shown (result id (some 17) p) r)
   unfolding stepSix judgeResult isOurs
   are-digits f = rw (a, received-is _ p w, is-password p f, w)
 

@@ -10,7 +10,6 @@ use Rattle.components.specs.Component.{Component, invoke, result, error, reject
 use Rattle.components.specs.Facility.{Finding, empty, shows, general, leftOver, faultyReject, facility}
 use Rattle.messages.specs.Layout.{value}
 use Rattle.table.specs.Table.{Entry, entryAt}
-use Rattle.table.proofs.TableLaws.{valid-each}
 use Rattle.judging.specs.StepSix.{Judged, problem, accepted, judgeInvoke, judgeResult, judgeError}
 use Rattle.deciding.specs.Decision.{Decision, silent, withCause, withReject, onReject, released, taken}
 use Rattle.deciding.specs.Steps.{firstOctet, pickedEntry, onJudged, stepSix, fiveAndSix, decide}
@@ -65,7 +64,7 @@ isLoud (withCause number) = true
 isLoud (withReject id tag number) = true
 isLoud (onReject shown) = true
 isLoud (released shown cause) = true
-isLoud (taken entry shown) = true
+isLoud (taken change shown) = true
 
 silent-not : {C : Type 0} → false ≡ true → C
 silent-not h = absurd (false≢true h)
@@ -77,5 +76,5 @@ loud-ready t m room h =
     (λ g _.
     let x = eqb-false (value (firstOctet m)) 7 (g .transaction) in
     let y : value (firstOctet m) < 7 = omega arith in
-    (valid-each t (g .table) .0, (leb-true 12 room (g .room), (leb-true 2 (length m) (g .least), y))))
+    (g .table, (leb-true 12 room (g .room), (leb-true 2 (length m) (g .least), y))))
     h

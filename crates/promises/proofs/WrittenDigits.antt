@@ -22,8 +22,8 @@ use Rattle.components.specs.Facility.{shows, facility}
 use Rattle.components.specs.Written.{componentOctets, tagOf, resultFor, enclosedLength, resultLength}
 use Rattle.messages.specs.Layout.{releaseType, sized, mandatory, releaseEmpty, facilityMessage, sentFirst}
 use Rattle.messages.specs.Scan.{required}
+use Rattle.sides.specs.Side.{among, operationOf}
 use Rattle.table.specs.Table.{named, entryAt, valid}
-use Rattle.judging.specs.StepSix.{among, operationOf}
 use Rattle.calling.specs.Calls.{Sending, transaction, fitting, sendBegin, sendInvoke, sendResult, sendError, sendRelease}
 use Rattle.calling.proofs.Lengths.{facility-answer}
 use Rattle.telephone.specs.Outcome.{Outcome}

@@ -10,7 +10,9 @@ use Rattle.promises.specs.Editions.{Editions}
 use Rattle.promises.specs.ErrorCases.{ErrorCases}
 use Rattle.promises.specs.PasswordCases.{PasswordCases}
 use Rattle.promises.specs.NeverDamaged.{NeverDamaged}
+use Rattle.promises.specs.Four.{Four}
+use Rattle.promises.specs.FourCases.{FourCases}
 use Rattle.promises.specs.Felt.{Felt}
 
 abbrev pub All : Type 1
-All = Demand1 × (Demand2 × (Demand3 × (PartsStand × (Exact × (Determined × (Worked × (W1Received × (Editions × (ErrorCases × (PasswordCases × (NeverDamaged × Felt)))))))))))
+All = Demand1 × (Demand2 × (Demand3 × (PartsStand × (Exact × (Determined × (Worked × (W1Received × (Editions × (ErrorCases × (PasswordCases × (NeverDamaged × (Four × (FourCases × Felt)))))))))))))

@@ -13,7 +13,8 @@ use Rattle.components.specs.Facility.{Finding}
 use Rattle.components.specs.Seen.{ReadsKind, ReadsFinding}
 use Rattle.messages.specs.Types.{TellsType}
 use Rattle.messages.specs.Seen.{ReadsItem, ReadsSized, ReadsMandatory, ReadsRequired, FindsFirst}
-use Rattle.table.specs.Seen.{ReadsEntry, FindsClosed, NamesEntry}
+use Rattle.table.specs.Raw.{ReadsEntry}
+use Rattle.table.specs.Seen.{FindsClosed, NamesEntry}
 use Rattle.judging.specs.StepSix.{Judged}
 use Rattle.judging.specs.Seen.{Judges, JudgesError}
 use Rattle.deciding.specs.Decision.{Decision}

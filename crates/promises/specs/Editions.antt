@@ -53,7 +53,7 @@ abbrev pub own59 : List ℕ
 own59 = ownWaits 59
 
 abbrev pub openTable : List ℕ
-openTable = zeros 35 ++ (0x01 ∷ zeros 34)
+openTable = zeros 119 ++ (0x01 ∷ zeros 118)
 
 abbrev pub letterA : Taken Text
 letterA = record { value = record { scheme = 0x0F; string = 0x41 ∷ [] }; rest = [] }

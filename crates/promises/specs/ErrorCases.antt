@@ -5,6 +5,7 @@ use mathlib.Core.List.{List, [], _∷_}
 use mathlib.Core.Bool.{true}
 use mathlib.Core.Option.{none}
 use lib.IntN.{pos}
+use Rattle.table.specs.Change.{ours, clears}
 use Rattle.components.specs.Component.{error}
 use Rattle.components.specs.Shows.{Shows}
 use Rattle.deciding.specs.Steps.{shown}
@@ -33,5 +34,5 @@ abbrev pub ErrorCases : Type 0
 ErrorCases =
     Answers 3 (0x0B ∷ 0x2A ∷ 0x1C ∷ 0x08 ∷ 0xA4 ∷ 0x06 ∷ 0x02 ∷ 0x01 ∷ 0x01 ∷ 0x83 ∷ 0x01 ∷ 0x03 ∷ []) (receive own11 (errorWith 72) buffer)
     × ((receive own11 (endWith 72) buffer ≡ releasedWith own11 (endWith 72) buffer none)
-    × ((receive own59 (errorWith 71) buffer ≡ takenWith own59 (errorWith 71) buffer (record { isOpen = true; own = []; peer = [] }) alphabetShown)
+    × ((receive own59 (errorWith 71) buffer ≡ takenWith own59 (errorWith 71) buffer (clears ours (pos 1)) alphabetShown)
     × (receive own59 (endWith 71) buffer ≡ releasedWith own59 (endWith 71) buffer alphabetShown)))

@@ -9,9 +9,9 @@ use lib.IntN.{ℤ}
 use Rattle.codes.specs.Errors.{listed, errorsOf, isIn}
 use Rattle.codes.specs.Problems.{errorProblem}
 use Rattle.components.specs.Component.{error}
-use Rattle.table.specs.Table.{entryAt}
-use Rattle.judging.specs.StepSix.{among, operationOf, withoutOwn}
-use Rattle.deciding.specs.Steps.{pickedEntry, shown}
+use Rattle.sides.specs.Side.{among, operationOf}
+use Rattle.table.specs.Change.{ours, clears}
+use Rattle.deciding.specs.Steps.{shown}
 use Rattle.telephone.specs.Receive.{receive}
 use Rattle.promises.specs.Reaches.{outstanding, takenOrReleased, ReachesStepSix, ReachesInRelease, rejected, takenWith, releasedWith}
 
@@ -38,7 +38,7 @@ OthersAreRefused =
 abbrev pub ItsOwnAreShown : Type 0
 ItsOwnAreShown =
     (t m b : List ℕ) (id : ℤ) (code : ℕ) (p : List ℕ) → among id (outstanding t m) ≡ true → isIn code (itsErrors t m id) ≡ true
-    → ((r : ReachesStepSix t m b (error id code p)) → receive t m b ≡ takenWith t m b (withoutOwn (entryAt t (pickedEntry m)) id) (shown (error id code p) (r .behind)))
+    → ((r : ReachesStepSix t m b (error id code p)) → receive t m b ≡ takenWith t m b (clears ours id) (shown (error id code p) (r .behind)))
     × ((r : ReachesInRelease t m b (error id code p)) → receive t m b ≡ releasedWith t m b (shown (error id code p) (r .behind)))
 
 abbrev pub ErrorLists : Type 0

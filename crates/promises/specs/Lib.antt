@@ -13,5 +13,7 @@ pub mod Editions
 pub mod ErrorCases
 pub mod PasswordCases
 pub mod NeverDamaged
+pub mod Four
+pub mod FourCases
 pub mod Felt
 pub mod All

@@ -9,7 +9,7 @@ use mathlib.Core.Option.{Option, none, some}
 use lib.IntN.{ℤ}
 use lib.ListN.{length, take, drop}
 use lib.Dec.{leb, eqb}
-use Rattle.codes.specs.Problems.{generalProblem, invokeProblem, resultProblem, errorProblem}
+use Rattle.codes.specs.Problems.{isProblem}
 use Rattle.components.specs.Component.{reject}
 use Rattle.components.specs.Written.{componentOctets}
 use Rattle.messages.specs.Layout.{sentFirst, releaseEmpty, releaseCause, releaseFacility}
@@ -39,16 +39,7 @@ pub record Closes (t : List ℕ) (k : ℕ) (o : Outcome) : Type 0 where
 abbrev pub sendsNothing : ℕ → Bool
 sendsNothing code = eqb code 1 || eqb code 6 || eqb code 7 || eqb code 27 || eqb code 28
 
--- "A Reject that we read may carry any problem octet; we write only those below": the problems of steps 5 and 6, general 0 to
--- 2; invoke 0 to 3 and 5 to 7; result 0 and 2; error 0, 2 and 3
-abbrev pub isProblem : ℕ → ℕ → Bool
-isProblem tag number =
-    (eqb tag generalProblem && leb number 2)
-    || (eqb tag invokeProblem && (leb number 3 || (leb 5 number && leb number 7)))
-    || (eqb tag resultProblem && (eqb number 0 || eqb number 2))
-    || (eqb tag errorProblem && (eqb number 0 || eqb number 2 || eqb number 3))
-
--- and the causes of steps 2 to 5
+-- the causes of steps 2 to 5
 abbrev pub isCause : ℕ → Bool
 isCause number = eqb number 29 || eqb number 81 || eqb number 96 || eqb number 97 || eqb number 98
 

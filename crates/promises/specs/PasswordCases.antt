@@ -5,6 +5,7 @@ use mathlib.Core.List.{List, [], _∷_, _++_}
 use mathlib.Core.Bool.{true}
 use mathlib.Core.Option.{none, some}
 use lib.IntN.{pos}
+use Rattle.table.specs.Change.{ours, clears}
 use Rattle.components.specs.Component.{result}
 use Rattle.components.specs.Shows.{Shows}
 use Rattle.deciding.specs.Steps.{shown}
@@ -49,6 +50,6 @@ PasswordCases =
     × (Answers 0 (0x8B ∷ 0x3A ∷ 0x10 ∷ 0xA2 ∷ 0x0E ∷ 0x02 ∷ 0x01 ∷ 0x05 ∷ 0x30 ∷ 0x09 ∷ 0x02 ∷ 0x01 ∷ 0x12 ∷ password 0x34) (calls.result peer18 buffer 0 0 (pos 5) (password 0x34))
     × (Answers 3 (0x0B ∷ 0x2A ∷ 0x1C ∷ 0x08 ∷ 0xA4 ∷ 0x06 ∷ 0x02 ∷ 0x01 ∷ 0x01 ∷ 0x82 ∷ 0x01 ∷ 0x02 ∷ []) (receive own17 (resultWith 0x20) buffer)
     × ((receive own17 (endWith 0x20) buffer ≡ releasedWith own17 (endWith 0x20) buffer none)
-    × ((receive own17 (resultWith 0x34) buffer ≡ takenWith own17 (resultWith 0x34) buffer (record { isOpen = true; own = []; peer = [] }) passwordShown)
+    × ((receive own17 (resultWith 0x34) buffer ≡ takenWith own17 (resultWith 0x34) buffer (clears ours (pos 1)) passwordShown)
     × ((receive own17 (endWith 0x34) buffer ≡ releasedWith own17 (endWith 0x34) buffer passwordShown)
     × Answers 0 (0x0B ∷ 0x3B ∷ 0x1C ∷ 0x0E ∷ 0xA1 ∷ 0x0C ∷ 0x02 ∷ 0x01 ∷ 0x01 ∷ 0x02 ∷ 0x01 ∷ 0x0A ∷ spaces ++ (0x7F ∷ 0x01 ∷ 0x00 ∷ [])) (calls.begin fresh buffer 10 (pos 1) spaces)))))))

@@ -14,9 +14,10 @@ use Rattle.elements.specs.Element.{element}
 use Rattle.codes.specs.Problems.{resultProblem}
 use Rattle.components.specs.Component.{result, resultTag}
 use Rattle.messages.specs.Layout.{sentFirst, facilityType}
+use Rattle.sides.specs.Side.{among, operationOf}
 use Rattle.table.specs.Table.{named, entryAt, valid}
-use Rattle.judging.specs.StepSix.{among, operationOf, withoutOwn}
-use Rattle.deciding.specs.Steps.{pickedEntry, shown}
+use Rattle.table.specs.Change.{ours, clears}
+use Rattle.deciding.specs.Steps.{shown}
 use Rattle.showing.specs.Views.{standing}
 use Rattle.telephone.specs.Outcome.{Outcome, untouched}
 use Rattle.telephone.specs.Receive.{receive}
@@ -100,7 +101,7 @@ abbrev pub DigitsAreShown : Type 0
 DigitsAreShown =
     (t m b : List ℕ) (id : ℤ) (p : List ℕ) → WaitsForPassword t m id → FourDigits p
     → ((r : ReachesStepSix t m b (result id (some 17) p))
-    → receive t m b ≡ takenWith t m b (withoutOwn (entryAt t (pickedEntry m)) id) (shown (result id (some 17) p) (r .behind)))
+    → receive t m b ≡ takenWith t m b (clears ours id) (shown (result id (some 17) p) (r .behind)))
     × ((r : ReachesInRelease t m b (result id (some 17) p)) → receive t m b ≡ releasedWith t m b (shown (result id (some 17) p) (r .behind)))
 
 abbrev pub Passwords : Type 0

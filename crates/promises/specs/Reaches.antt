@@ -6,7 +6,7 @@ use mathlib.Core.Bool.{Bool, true, false, _||_}
 use mathlib.Core.Option.{none, some}
 use lib.IntN.{ℤ}
 use lib.ListN.{length, getD, drop}
-use lib.Dec.{eqb}
+use lib.Dec.{eqb, ltb}
 use Rattle.octets.specs.Reader.{took}
 use Rattle.octets.specs.Splice.{splice}
 use Rattle.components.specs.Component.{Component, reject}
@@ -15,13 +15,19 @@ use Rattle.components.specs.Shows.{Shows}
 use Rattle.components.specs.Written.{componentOctets}
 use Rattle.messages.specs.Layout.{discriminator, value, flag, registerType, facilityType, releaseType, releaseFacility}
 use Rattle.messages.specs.Scan.{required, firstTaken}
-use Rattle.table.specs.Table.{Waiting, Entry, entryAt, closed, valid, withEntry}
+use Rattle.sides.specs.Side.{Waiting}
+use Rattle.table.specs.Table.{entryAt, closed, valid, withEntry}
+use Rattle.table.specs.Change.{Change, withChange}
 use Rattle.deciding.specs.Steps.{firstOctet, pickedEntry, replyFirst}
 use Rattle.telephone.specs.Outcome.{Outcome}
 
 -- what we have outstanding in the message's transaction, as the table has it before
 abbrev pub outstanding : List ℕ → List ℕ → List Waiting
 outstanding t m = entryAt t (pickedEntry m) .own
+
+-- "fewer than four": there is a place for another
+abbrev pub fewerThanFour : List Waiting → Bool
+fewerThanFour ws = ltb (length ws) 4
 
 -- taken, or released by the network: the verdicts that show a result or an error
 abbrev pub takenOrReleased : ℕ → Bool
@@ -81,9 +87,9 @@ rejected t m b id tag number =
       table = withEntry t (pickedEntry m) closed;
     }
 
--- verdict 0, nothing sent or written, this shown, and the entry as it becomes
-abbrev pub takenWith : List ℕ → List ℕ → List ℕ → Entry → Shows → Outcome
-takenWith t m b entry shown =
+-- verdict 0, nothing sent or written, this shown, and one change of the entry
+abbrev pub takenWith : List ℕ → List ℕ → List ℕ → Change → Shows → Outcome
+takenWith t m b change shown =
     record {
       code = 0;
       written = 0;
@@ -91,7 +97,7 @@ takenWith t m b entry shown =
       shown = shown;
       cause = none;
       buffer = b;
-      table = withEntry t (pickedEntry m) entry;
+      table = withChange t (pickedEntry m) change;
     }
 
 -- verdict 5, nothing sent or written, this shown and the contents of the 08, and the entry closed

@@ -15,8 +15,8 @@ use Rattle.components.specs.Facility.{shows, facility}
 use Rattle.components.specs.Written.{componentOctets, resultFor, Writable}
 use Rattle.messages.specs.Layout.{sentFirst, registerType, facilityType, releaseType}
 use Rattle.messages.specs.Scan.{required, firstWhole}
+use Rattle.sides.specs.Side.{operationOf}
 use Rattle.table.specs.Table.{named, entryAt}
-use Rattle.judging.specs.StepSix.{operationOf}
 use Rattle.deciding.specs.Steps.{replyFirst}
 use Rattle.telephone.specs.Outcome.{Outcome}
 use Rattle.telephone.specs.Receive.{receive}

@@ -19,15 +19,15 @@ abbrev pub zeros : ℕ → List ℕ
 zeros n = replicate n 0
 
 abbrev pub fresh : List ℕ
-fresh = zeros 70
+fresh = zeros 238
 
 -- the network's value 0 waits for the answer to its invoke 5 of this operation
 abbrev pub peerWaits : ℕ → List ℕ
-peerWaits operation = zeros 35 ++ (0x05 ∷ 0x00 ∷ 0x00 ∷ 0x05 ∷ operation ∷ []) ++ zeros 30
+peerWaits operation = zeros 119 ++ ((0x05 ∷ zeros 8) ++ (0x05 ∷ operation ∷ [])) ++ zeros 108
 
 -- our value 0 waits for the answer to our invoke 1 of this operation
 abbrev pub ownWaits : ℕ → List ℕ
-ownWaits operation = 0x03 ∷ 0x01 ∷ operation ∷ zeros 67
+ownWaits operation = 0x03 ∷ 0x01 ∷ operation ∷ zeros 235
 
 -- the table after W1
 abbrev pub afterW1 : List ℕ

@@ -1,55 +1,51 @@
--- Entries and their images, what is read of a table after an entry was written, which tables are sound, and the lowest closed value.
+-- Entries and their images, what is read of a table after an entry was written, which tables are sound, what a change leaves, and
+-- the lowest closed value.
 use mathlib.Core.Path.{_≡_, refl, sym, ap, _∙_}
 use mathlib.Core.Bool.{Bool, true, false, cond, not, _&&_, _||_, false≢true}
-use mathlib.Core.List.{List, [], _∷_}
+use mathlib.Core.List.{List, [], _∷_, _++_}
 use mathlib.Core.Option.{none, some}
-use Prim.Native.Nat.{ℕ, zero, suc, _+_, _*_, _-_, _%_, _<_, _≤_}
+use Prim.Native.Nat.{ℕ, zero, suc, _+_, _*_, _-_, _<_, _≤_}
 use native.Mathlib.Nat.{add-zero}
 use native.Mathlib.Omega.{arith}
-use borrow.Author.Tests.{eqb-true, eqb-false, eq-eqb, ltb-true, ltb-false}
-use lib.Dec.{eqb, ltb, lit<}
+use borrow.Author.Tests.{eqb-true, eqb-false, eq-eqb, ltb-true, ltb-false, le-leb, leb-true}
+use lib.Dec.{eqb, ltb, leb, lit<}
 use lib.IntN.{ℤ}
-use lib.ListN.{length, getD, replicate, getD-replicate}
-use lib.Seq.{ext-getD}
+use lib.ListN.{length, getD, take, drop, replicate, length-append, length-replicate, getD-replicate}
+use lib.Seq.{ext-getD, take-at, drop-at, take-all}
 use Rattle.octets.proofs.TestLaws.{both}
 use Rattle.octets.specs.Octets.{Octets}
+use Rattle.octets.specs.Part.{between}
 use Rattle.octets.specs.Splice.{splice}
+use Rattle.octets.proofs.OctetsLaws.{octets-take, octets-drop}
+use Rattle.octets.proofs.PartLaws.{length-between, getD-between}
 use Rattle.octets.proofs.SpliceLaws.{length-splice, getD-within, getD-before, getD-behind}
 use Rattle.codes.specs.Operations.{begins, waits}
-use Rattle.codes.proofs.IdLaws.{IsId, is-id, octet-back, id-back}
-use Rattle.table.specs.Table.{Waiting, Entry, closed, size, hasOwn, hasPeer, Image, imageAt, waitingIn, entryOf, soundIn, soundState, soundImage, entryAt, soundEntries, valid, idIn, operationIn, null, added, stateOf, entryOctets, withEntry, lowestFrom, lowestClosed, holdsOne, holds}
+use Rattle.sides.specs.Side.{Waiting, places, isEmpty, holdsSide, sideOf, sideOctets, allZero, soundSide}
+use Rattle.sides.proofs.SideLaws.{Held, Ids, held-of, held-ids, side-back, none-octets, none-zero, octets-length, sound-back, fit-of, sound-holds, held-listed, holds-sound}
+use Rattle.table.specs.Table.{Entry, closed, size, Image, imageIn, noImage, imageAt, entryOf, soundImage, entryAt, soundEntries, valid, added, stateOf, entryOctets, withEntry, lowestFrom, lowestClosed, holds}
 
-three : (a b c : Bool) → (a && b && c) ≡ true → (a ≡ true) × (b ≡ true) × (c ≡ true)
-three true true c e = (refl, refl, e)
+three : (a b c : Bool) → (a && b && c) ≡ true → (a ≡ true) × ((b ≡ true) × (c ≡ true))
+three true true c e = (refl, (refl, e))
 three true false c e = absurd (false≢true e)
 three false b c e = absurd (false≢true e)
 
--- ids that one octet can say
-abbrev pub Ids : List Waiting → Type 0
-Ids [] = Unit {0}
-Ids (w ∷ ws) = IsId (w .id) × Ids ws
+-- the operation 0 is on neither side
+pub begins-none : begins 0 ≡ false
+begins-none = refl
+
+pub waits-none : waits 0 ≡ false
+waits-none = refl
 
 -- the octets of an entry as an image
 abbrev imageOf : Entry → Image
-imageOf e =
-    record {
-      state = stateOf e;
-      ownId = idIn (e .own);
-      ownOperation = operationIn (e .own);
-      peerId = idIn (e .peer);
-      peerOperation = operationIn (e .peer);
-    }
+imageOf e = record { state = stateOf e; own = sideOctets places (e .own); peer = sideOctets places (e .peer) }
 
--- the state of an open entry
-abbrev opened : Bool → Bool → ℕ
-opened own peer = 1 + added own 2 + added peer 4
-
--- what is read of it
-bits : (p q : Bool) → (eqb (opened p q) 0 ≡ false) × (hasOwn (opened p q) ≡ p) × (hasPeer (opened p q) ≡ q) × (soundState (opened p q) ≡ true)
-bits true true = (refl, refl, refl, refl)
-bits true false = (refl, refl, refl, refl)
-bits false true = (refl, refl, refl, refl)
-bits false false = (refl, refl, refl, refl)
+-- the state of an open entry is not 0
+open-state : (p q : Bool) → eqb (1 + added p 2 + added q 4) 0 ≡ false
+open-state true true = refl
+open-state true false = refl
+open-state false true = refl
+open-state false false = refl
 
 -- a test of each number below n
 module _ (f : ℕ → Bool) where
@@ -69,156 +65,201 @@ module _ (f : ℕ → Bool) where
   of-each zero h = refl
   of-each (suc n) h = rw (of-each n (λ k l. h k (omega arith)), h n (omega arith))
 
--- the state of an entry that was read from a state: for a sound one, itself
-abbrev stateBack : ℕ → ℕ
-stateBack n = cond (not (eqb n 0)) (opened (hasOwn n) (hasPeer n)) 0
+-- the three parts of what an image can hold
+pub holds-parts : (e : Entry) → holds e ≡ true
+    → (holdsSide begins (e .own) ≡ true) × ((holdsSide waits (e .peer) ≡ true) × ((e .isOpen || (isEmpty (e .own) && isEmpty (e .peer))) ≡ true))
+unfolding holds
+holds-parts e h = three (holdsSide begins (e .own)) (holdsSide waits (e .peer)) _ h
 
--- a sound state is one of eight numbers, so that computing settles it
-under : (n : ℕ) (a b c : Bool) → eqb n 0 ≡ a → ltb n 8 ≡ c → (a || (b && c)) ≡ true → n < 8
-under n true b c p q h = omega (arith, eqb-true n 0 p)
-under n false true c p q h = ltb-true n 8 (q ∙ h)
-under n false false c p q h = absurd (false≢true h)
+pub open-holds : (p q : List Waiting) → holdsSide begins p ≡ true → holdsSide waits q ≡ true → holds (record { isOpen = true; own = p; peer = q }) ≡ true
+unfolding holds
+open-holds p q h k = rw (h, k)
 
-state-back : (n : ℕ) → soundState n ≡ true → stateBack n ≡ n
-state-back n h =
-    let e = each (λ k. cond (soundState k) (eqb (stateBack k) k) true) 8 refl n (under n (eqb n 0) (eqb (n % 2) 1) (ltb n 8) refl refl h) in
-    eqb-true (stateBack n) n (rw h at e)
-
--- one side of an entry and its two octets, there and back
-module _ (listed : ℕ → Bool) where
-  side-back : (l : List Waiting) → holdsOne listed l ≡ true → Ids l → waitingIn (not (null l)) (idIn l) (operationIn l) ≡ l
-  side-back [] h i = refl
-  side-back (w ∷ []) h i = ap (λ (z : ℤ). record { id = z; operation = w .operation } ∷ []) (id-back (i .0))
-  side-back (w ∷ v ∷ ws) h i = absurd (false≢true h)
-
-  side-sound : (l : List Waiting) → holdsOne listed l ≡ true → soundIn (not (null l)) listed (idIn l) (operationIn l) ≡ true
-  side-sound [] h = refl
-  side-sound (w ∷ []) h = h
-  side-sound (w ∷ v ∷ ws) h = absurd (false≢true h)
-
-  side-holds : (b : Bool) (id operation : ℕ) → soundIn b listed id operation ≡ true → holdsOne listed (waitingIn b id operation) ≡ true
-  side-holds true id operation h = h
-  side-holds false id operation h = refl
-
-  side-octets : (b : Bool) (id operation : ℕ) → soundIn b listed id operation ≡ true → id < 256
-      → (not (null (waitingIn b id operation)) ≡ b) × (idIn (waitingIn b id operation) ≡ id) × (operationIn (waitingIn b id operation) ≡ operation)
-  side-octets true id operation h l = (refl, octet-back id l, refl)
-  side-octets false id operation h l =
-      let w = both _ _ h in
-      (refl, sym (eqb-true id 0 (w .0)), sym (eqb-true operation 0 (w .1)))
-
-side-ids : (b : Bool) (id operation : ℕ) → id < 256 → Ids (waitingIn b id operation)
-side-ids true id operation l = (is-id id l, tt)
-side-ids false id operation l = tt
-
+-- an entry that an image can hold is read back from its image
 module _ (o : Bool) (p q : List Waiting) where
   abbrev made : Entry
   made = record { isOpen = o; own = p; peer = q }
 
-  holds-parts : holds made ≡ true → (holdsOne begins p ≡ true) × (holdsOne waits q ≡ true) × ((o || (null p && null q)) ≡ true)
-  unfolding holds
-  holds-parts h = three (holdsOne begins p) (holdsOne waits q) (o || (null p && null q)) h
+state-back : (o : Bool) (p q : List Waiting) → not (eqb (stateOf (made o p q)) 0) ≡ o
+unfolding stateOf
+state-back true p q = rw (open-state (not (isEmpty p)) (not (isEmpty q)))
+state-back false p q = refl
 
--- an entry that an image can hold is read back from its image, which is sound
-entry-back : (o : Bool) (p q : List Waiting) → holds (made o p q) ≡ true → Ids p → Ids q → entryOf (imageOf (made o p q)) ≡ made o p q
-unfolding entryOf stateOf
-entry-back true p q h i j =
-    let w = holds-parts true p q h in
-    let b = bits (not (null p)) (not (null q)) in
-    rw (b .0, b .1, b .2, side-back begins p (w .0) i, side-back waits q (w .1) j)
-entry-back false [] [] h i j = refl
-entry-back false [] (w ∷ q) h i j = absurd (false≢true (holds-parts false [] (w ∷ q) h .2))
-entry-back false (w ∷ p) q h i j = absurd (false≢true (holds-parts false (w ∷ p) q h .2))
+-- both sides as they were
+sides-back : (e : Entry) → holds e ≡ true → Ids (e .own) → Ids (e .peer)
+    → (sideOf (sideOctets places (e .own)) ≡ e .own) × (sideOf (sideOctets places (e .peer)) ≡ e .peer)
+sides-back e h i j =
+    let w = holds-parts e h in
+    let a = fit-of begins (e .own) (w .0) in
+    let b = fit-of waits (e .peer) (w .1 .0) in
+    (side-back 4 (e .own) (a .0) (held-listed begins begins-none (e .own) (a .1 .0) i), side-back 4 (e .peer) (b .0) (held-listed waits waits-none (e .peer) (b .1 .0) j))
 
-image-sound : (o : Bool) (p q : List Waiting) → holds (made o p q) ≡ true → soundImage (imageOf (made o p q)) ≡ true
-unfolding soundImage stateOf
-image-sound true p q h =
-    let w = holds-parts true p q h in
-    let b = bits (not (null p)) (not (null q)) in
-    rw (b .3, b .1, b .2, side-sound begins p (w .0), side-sound waits q (w .1))
-image-sound false [] [] h = refl
-image-sound false [] (w ∷ q) h = absurd (false≢true (holds-parts false [] (w ∷ q) h .2))
-image-sound false (w ∷ p) q h = absurd (false≢true (holds-parts false (w ∷ p) q h .2))
+entry-back : (e : Entry) → holds e ≡ true → Ids (e .own) → Ids (e .peer) → entryOf (imageOf e) ≡ e
+unfolding entryOf
+entry-back e h i j = let s = sides-back e h i j in rw (s .0, s .1, state-back (e .isOpen) (e .own) (e .peer))
+
+empty-none : (ws : List Waiting) → isEmpty ws ≡ true → ws ≡ []
+empty-none [] h = refl
+empty-none (w ∷ ws) h = absurd (false≢true h)
+
+closed-zero : (o : Bool) (p q : List Waiting) → (o || (isEmpty p && isEmpty q)) ≡ true → (o || (allZero (sideOctets places p) && allZero (sideOctets places q))) ≡ true
+closed-zero true p q h = refl
+closed-zero false p q h =
+    let a = both (isEmpty p) (isEmpty q) h in
+    rw (empty-none p (a .0), empty-none q (a .1), none-zero 4)
+
+image-sound : (e : Entry) → holds e ≡ true → Ids (e .own) → Ids (e .peer) → soundImage (imageOf e) ≡ true
+unfolding soundImage
+image-sound e h i j =
+    let w = holds-parts e h in
+    rw (
+      entry-back e h i j,
+      eq-eqb (stateOf e) (stateOf e) refl,
+      holds-sound begins begins-none (e .own) (w .0) i,
+      holds-sound waits waits-none (e .peer) (w .1 .0) j,
+      state-back (e .isOpen) (e .own) (e .peer),
+    )
+    (closed-zero (e .isOpen) (e .own) (e .peer) (w .1 .1))
+
+-- eight octets a side
+abbrev pub Eight : Image → Type 0
+Eight i = (length (i .own) ≡ 8) × (length (i .peer) ≡ 8)
 
 -- what a sound image is made of
 sound-parts : (i : Image) → soundImage i ≡ true
-    → (soundState (i .state) ≡ true) × (soundIn (hasOwn (i .state)) begins (i .ownId) (i .ownOperation) ≡ true) × (soundIn (hasPeer (i .state)) waits (i .peerId) (i .peerOperation) ≡ true)
+    → ((i .state ≡ stateOf (entryOf i)) × (soundSide begins (i .own) ≡ true))
+    × ((soundSide waits (i .peer) ≡ true) × ((not (eqb (i .state) 0) || (allZero (i .own) && allZero (i .peer))) ≡ true))
 unfolding soundImage
-sound-parts i h = three _ (soundIn (hasOwn (i .state)) begins (i .ownId) (i .ownOperation)) (soundIn (hasPeer (i .state)) waits (i .peerId) (i .peerOperation)) h
+sound-parts i h =
+    let w = both (eqb (i .state) (stateOf (entryOf i)) && soundSide begins (i .own) && soundSide waits (i .peer)) _ h in
+    let v = three (eqb (i .state) (stateOf (entryOf i))) (soundSide begins (i .own)) (soundSide waits (i .peer)) (w .0) in
+    ((eqb-true (i .state) (stateOf (entryOf i)) (v .0), v .1 .0), (v .1 .1, w .1))
 
--- nothing waits in an entry whose state is 0
-none-waits : (n a b c d : ℕ) (z : Bool) → eqb n 0 ≡ z → (not z || (null (waitingIn (hasOwn n) a b) && null (waitingIn (hasPeer n) c d))) ≡ true
-none-waits n a b c d false e = refl
-none-waits n a b c d true e = rw (eqb-true n 0 e)
+none-waits : (b : Bool) (p q : List ℕ) → length p ≡ 8 → length q ≡ 8 → (b || (allZero p && allZero q)) ≡ true → (b || (isEmpty (sideOf p) && isEmpty (sideOf q))) ≡ true
+none-waits true p q l m h = refl
+none-waits false p q l m h =
+    let a = both (allZero p) (allZero q) h in
+    rw (← none-octets 4 p l (a .0), ← none-octets 4 q m (a .1), side-back 4 [] (omega arith) tt)
 
-pub sound-holds : (i : Image) → soundImage i ≡ true → holds (entryOf i) ≡ true
+pub sound-image-holds : (i : Image) → Eight i → soundImage i ≡ true → holds (entryOf i) ≡ true
 unfolding holds entryOf
-sound-holds i h =
+sound-image-holds i l h =
     let w = sound-parts i h in
-    rw (
-      side-holds begins (hasOwn (i .state)) (i .ownId) (i .ownOperation) (w .1),
-      side-holds waits (hasPeer (i .state)) (i .peerId) (i .peerOperation) (w .2),
-    )
-    (none-waits (i .state) (i .ownId) (i .ownOperation) (i .peerId) (i .peerOperation) (eqb (i .state) 0) refl)
+    rw (sound-holds begins (i .own) (l .0) (w .0 .1), sound-holds waits (i .peer) (l .1) (w .1 .0))
+    (none-waits (not (eqb (i .state) 0)) (i .own) (i .peer) (l .0) (l .1) (w .1 .1))
 
-pub entry-ids : (i : Image) → i .ownId < 256 → i .peerId < 256 → Ids (entryOf i .own) × Ids (entryOf i .peer)
-unfolding entryOf
-entry-ids i l m = (side-ids (hasOwn (i .state)) (i .ownId) (i .ownOperation) l, side-ids (hasPeer (i .state)) (i .peerId) (i .peerOperation) m)
+-- a sound side is written as it was read
+pub settled-own : (i : Image) → Eight i → Octets (i .own) → soundImage i ≡ true → sideOctets places (sideOf (i .own)) ≡ i .own
+settled-own i l o h = sound-back begins 4 (i .own) (l .0) o (sound-parts i h .0 .1)
 
--- a sound image is that of its entry
-image-back : (i : Image) → soundImage i ≡ true → i .ownId < 256 → i .peerId < 256 → imageOf (entryOf i) ≡ i
-unfolding entryOf stateOf
-image-back i h l m =
-    let w = sound-parts i h in
-    let p = side-octets begins (hasOwn (i .state)) (i .ownId) (i .ownOperation) (w .1) l in
-    let q = side-octets waits (hasPeer (i .state)) (i .peerId) (i .peerOperation) (w .2) m in
-    rw (p .0, p .1, p .2, q .0, q .1, q .2, state-back (i .state) (w .0))
+pub settled-peer : (i : Image) → Eight i → Octets (i .peer) → soundImage i ≡ true → sideOctets places (sideOf (i .peer)) ≡ i .peer
+settled-peer i l o h = sound-back waits 4 (i .peer) (l .1) o (sound-parts i h .1 .0)
 
-pub closed-octets : entryOctets closed ≡ 0 ∷ 0 ∷ 0 ∷ 0 ∷ 0 ∷ []
-unfolding entryOctets stateOf
+pub closed-octets : entryOctets closed ≡ replicate 17 0
+unfolding entryOctets stateOf sideOctets
 closed-octets = refl
+
+entry-length : (e : Entry) → length (entryOctets e) ≡ 17
+unfolding entryOctets
+entry-length e =
+    let a = length-append (sideOctets places (e .own)) (sideOctets places (e .peer)) in
+    let b = octets-length 4 (e .own) in
+    let c = octets-length 4 (e .peer) in
+    omega arith
+
+-- a part of what was written, and of what stands before or behind it
+part-within : (t : List ℕ) (at : ℕ) (w : List ℕ) (i j : ℕ) → at + length w ≤ length t → i ≤ j → j ≤ length w → between (at + i) (at + j) (splice t at w) ≡ between i j w
+part-within t at w i j h l m =
+    let n : length (between (at + i) (at + j) (splice t at w)) ≡ j - i = length-between (at + i) (at + j) (splice t at w) (rw (length-splice t at w h) (omega arith)) ∙ omega arith in
+    let d : length (between i j w) ≡ j - i = length-between i j w m in
+    ext-getD 0 (between (at + i) (at + j) (splice t at w)) (between i j w) (n ∙ sym d)
+    (λ k x.
+    let e : at + i + k ≡ at + (i + k) = omega arith in
+    getD-between (at + i) (at + j) (splice t at w) k (omega (arith, n))
+    ∙ ap (λ (z : ℕ). getD (splice t at w) z 0) e
+    ∙ getD-within t at w (i + k) (omega arith) (omega (arith, n))
+    ∙ sym (getD-between i j w k (omega (arith, n))))
+
+same-part : (s t : List ℕ) (i j : ℕ) → length s ≡ length t → i ≤ j → j ≤ length t → ((k : ℕ) → i ≤ k → k < j → getD s k 0 ≡ getD t k 0) → between i j s ≡ between i j t
+same-part s t i j l h m g =
+    let n : length (between i j s) ≡ j - i = length-between i j s (omega arith) in
+    let d : length (between i j t) ≡ j - i = length-between i j t m in
+    ext-getD 0 (between i j s) (between i j t) (n ∙ sym d)
+    (λ k x. getD-between i j s k (omega (arith, n)) ∙ g (i + k) (omega arith) (omega (arith, n)) ∙ sym (getD-between i j t k (omega (arith, n))))
+
+-- the entry that the table has
+pub image-in : (t : List ℕ) (k : ℕ) → size * k + size ≤ length t → imageAt t k ≡ imageIn t k
+image-in t k h = rw (le-leb (size * k + size) (length t) h)
+
+pub eight-in : (t : List ℕ) (k : ℕ) → size * k + size ≤ length t → Eight (imageIn t k)
+eight-in t k h = (length-between (size * k + 1) (size * k + 9) t (omega arith) ∙ omega arith, length-between (size * k + 9) (size * k + 17) t (omega arith) ∙ omega arith)
+
+pub octets-in : (t : List ℕ) (k : ℕ) → Octets t → Octets (imageIn t k .own) × Octets (imageIn t k .peer)
+octets-in t k o = (octets-take (size * k + 9 - (size * k + 1)) (drop (size * k + 1) t) (octets-drop (size * k + 1) t o), octets-take (size * k + 17 - (size * k + 9)) (drop (size * k + 9) t) (octets-drop (size * k + 9) t o))
 
 -- an entry written into a table in which it fits
 module _ (t : List ℕ) (k : ℕ) (e : Entry) (fits : size * k + size ≤ length t) where
   pub length-with : length (withEntry t k e) ≡ length t
-  unfolding withEntry entryOctets
-  length-with = length-splice t (size * k) (entryOctets e) fits
+  unfolding withEntry
+  length-with = length-splice t (size * k) (entryOctets e) (rw (entry-length e) fits)
 
-  octet : (i : ℕ) → i < 5 → getD (withEntry t k e) (size * k + i) 0 ≡ getD (entryOctets e) i 0
+  own-written : between (size * k + 1) (size * k + 9) (withEntry t k e) ≡ sideOctets places (e .own)
   unfolding withEntry entryOctets
-  octet i l = getD-within t (size * k) (entryOctets e) i (omega arith) l
+  own-written =
+      let n = entry-length e in
+      part-within t (size * k) (entryOctets e) 1 9 (rw n fits) (omega arith) (rw n (omega arith))
+      ∙ take-at (sideOctets places (e .own)) (sideOctets places (e .peer)) 8 (octets-length 4 (e .own))
+
+  peer-written : between (size * k + 9) (size * k + 17) (withEntry t k e) ≡ sideOctets places (e .peer)
+  unfolding withEntry entryOctets
+  peer-written =
+      let n = entry-length e in
+      let l = octets-length 4 (e .peer) in
+      part-within t (size * k) (entryOctets e) 9 17 (rw n fits) (omega arith) (rw n (omega arith))
+      ∙ ap (take 8) (drop-at (sideOctets places (e .own)) (sideOctets places (e .peer)) 8 (octets-length 4 (e .own)))
+      ∙ take-all 8 (sideOctets places (e .peer)) (omega arith)
+
+  state-written : getD (withEntry t k e) (size * k) 0 ≡ stateOf e
+  unfolding withEntry entryOctets
+  state-written =
+      let n = entry-length e in
+      rw add-zero at (getD-within t (size * k) (entryOctets e) 0 (omega arith) (rw n (lit< tt)))
 
   image-written : imageAt (withEntry t k e) k ≡ imageOf e
-  unfolding entryOctets
   image-written =
-      let z : getD (withEntry t k e) (size * k) 0 ≡ stateOf e = rw add-zero at (octet 0 (lit< tt)) in
-      rw (z, octet 1 (lit< tt), octet 2 (lit< tt), octet 3 (lit< tt), octet 4 (lit< tt))
+      image-in (withEntry t k e) k (rw length-with fits)
+      ∙ rw (state-written, own-written, peer-written)
 
   pub read-written : holds e ≡ true → Ids (e .own) → Ids (e .peer) → entryAt (withEntry t k e) k ≡ e
   unfolding entryAt
-  read-written h i j = rw image-written (entry-back (e .isOpen) (e .own) (e .peer) h i j)
+  read-written h i j = rw image-written (entry-back e h i j)
 
   pub open-written : e .isOpen ≡ true → entryAt (withEntry t k e) k .isOpen ≡ true
-  unfolding entryAt entryOf stateOf
-  open-written o =
-      let z : getD (withEntry t k e) (size * k) 0 ≡ stateOf e = ap (λ (i : Image). i .state) image-written in
-      rw (z, o, bits (not (null (e .own))) (not (null (e .peer))) .0)
+  unfolding entryAt entryOf
+  open-written o = rw image-written (state-back (e .isOpen) (e .own) (e .peer) ∙ o)
 
-  other : (j : ℕ) → (j ≡ k → ⊥) → (b : Bool) → ltb j k ≡ b → (i : ℕ) → i < 5 → getD (withEntry t k e) (size * j + i) 0 ≡ getD t (size * j + i) 0
-  unfolding withEntry entryOctets
-  other j n true q i l =
+  other : (j : ℕ) → (j ≡ k → ⊥) → (b : Bool) → ltb j k ≡ b → (i : ℕ) → size * j ≤ i → i < size * j + size → getD (withEntry t k e) i 0 ≡ getD t i 0
+  unfolding withEntry
+  other j n true q i l m =
       let z = ltb-true j k q in
-      getD-before t (size * k) (entryOctets e) (size * j + i) (omega arith) (omega arith)
-  other j n false q i l =
+      getD-before t (size * k) (entryOctets e) i (omega arith) (omega arith)
+  other j n false q i l m =
       let z = ltb-false j k q in
       let y : k < j = omega arith in
-      getD-behind t (size * k) (entryOctets e) (size * j + i) (omega arith) (omega arith)
+      getD-behind t (size * k) (entryOctets e) i (omega arith) (rw (entry-length e) (omega arith))
+
+  same-at : (j : ℕ) → (j ≡ k → ⊥) → (b : Bool) → leb (size * j + size) (length t) ≡ b → cond b (imageIn (withEntry t k e) j) noImage ≡ cond b (imageIn t j) noImage
+  same-at j n false q = refl
+  same-at j n true q =
+      let l = leb-true (size * j + size) (length t) q in
+      let o = other j n (ltb j k) refl in
+      let a = o (size * j) (omega arith) (omega arith) in
+      let b = same-part (withEntry t k e) t (size * j + 1) (size * j + 9) length-with (omega arith) (omega arith) (λ i x y. o i (omega arith) (omega arith)) in
+      let c = same-part (withEntry t k e) t (size * j + 9) (size * j + 17) length-with (omega arith) (omega arith) (λ i x y. o i (omega arith) (omega arith)) in
+      rw (a, b, c)
 
 pub images-stay : (t : List ℕ) (j k : ℕ) (e : Entry) → size * k + size ≤ length t → (j ≡ k → ⊥) → imageAt (withEntry t k e) j ≡ imageAt t j
-images-stay t j k e l n =
-    let o = other t k e l j n (ltb j k) refl in
-    let z : getD (withEntry t k e) (size * j) 0 ≡ getD t (size * j) 0 = rw add-zero at (o 0 (lit< tt)) in
-    rw (z, o 1 (lit< tt), o 2 (lit< tt), o 3 (lit< tt), o 4 (lit< tt))
+images-stay t j k e l n = rw (length-with t k e l) (same-at t k e l j n (leb (size * j + size) (length t)) refl)
 
 pub others-stay : (t : List ℕ) (j k : ℕ) (e : Entry) → size * k + size ≤ length t → (j ≡ k → ⊥) → entryAt (withEntry t k e) j ≡ entryAt t j
 unfolding entryAt
@@ -230,89 +271,69 @@ unfolding soundEntries
 entries-below t zero = refl
 entries-below t (suc n) = ap (λ (b : Bool). b && soundImage (imageAt t n)) (entries-below t n)
 
--- a table is valid exactly when it has 70 octets and each entry is sound
-pub valid-each : (t : List ℕ) → valid t ≡ true → (length t ≡ 70) × ((k : ℕ) → k < 14 → soundImage (imageAt t k) ≡ true)
+-- a table is valid exactly when it has 238 octets and each entry is sound
+pub valid-each : (t : List ℕ) → valid t ≡ true → (length t ≡ 238) × ((k : ℕ) → k < 14 → soundImage (imageAt t k) ≡ true)
 unfolding valid
 valid-each t h =
-    let w = both (eqb (length t) 70) (soundEntries t 14) h in
-    (eqb-true (length t) 70 (w .0), each (λ k. soundImage (imageAt t k)) 14 (sym (entries-below t 14) ∙ w .1))
+    let w = both (eqb (length t) 238) (soundEntries t 14) h in
+    (eqb-true (length t) 238 (w .0), each (λ k. soundImage (imageAt t k)) 14 (sym (entries-below t 14) ∙ w .1))
 
-pub each-valid : (t : List ℕ) → length t ≡ 70 → ((k : ℕ) → k < 14 → soundImage (imageAt t k) ≡ true) → valid t ≡ true
+pub each-valid : (t : List ℕ) → length t ≡ 238 → ((k : ℕ) → k < 14 → soundImage (imageAt t k) ≡ true) → valid t ≡ true
 unfolding valid
-each-valid t l h = rw (eq-eqb (length t) 70 l, entries-below t 14) (of-each (λ k. soundImage (imageAt t k)) 14 h)
+each-valid t l h = rw (eq-eqb (length t) 238 l, entries-below t 14) (of-each (λ k. soundImage (imageAt t k)) 14 h)
 
-pub valid-entry : (t : List ℕ) (k : ℕ) → valid t ≡ true → k < 14 → soundImage (imageAt t k) ≡ true
-valid-entry t k h l = valid-each t h .1 k l
+pub fits-at : (t : List ℕ) (k : ℕ) → valid t ≡ true → k < 14 → size * k + size ≤ length t
+fits-at t k h l = omega (arith, valid-each t h .0)
+
+pub valid-entry : (t : List ℕ) (k : ℕ) → valid t ≡ true → k < 14 → soundImage (imageIn t k) ≡ true
+valid-entry t k h l = rw (← image-in t k (fits-at t k h l)) (valid-each t h .1 k l)
+
+pub entry-in : (t : List ℕ) (k : ℕ) → size * k + size ≤ length t → entryAt t k ≡ entryOf (imageIn t k)
+unfolding entryAt
+entry-in t k l = ap entryOf (image-in t k l)
 
 pub holds-at : (t : List ℕ) (k : ℕ) → valid t ≡ true → k < 14 → holds (entryAt t k) ≡ true
-unfolding entryAt
-holds-at t k h l = sound-holds (imageAt t k) (valid-entry t k h l)
+holds-at t k h l =
+    let f = fits-at t k h l in
+    rw (entry-in t k f) (sound-image-holds (imageIn t k) (eight-in t k f) (valid-entry t k h l))
 
--- what a list of octets holds, and 0 past its end
-octet-below : (s : List ℕ) (i : ℕ) → Octets s → getD s i 0 < 256
-octet-below [] i h = lit< tt
-octet-below (a ∷ s) zero h = h .0
-octet-below (a ∷ s) (suc i) h = octet-below s i (h .1)
+pub ids-at : (t : List ℕ) (k : ℕ) → Octets t → size * k + size ≤ length t → Ids (entryAt t k .own) × Ids (entryAt t k .peer)
+unfolding entryOf
+ids-at t k o f =
+    let w = octets-in t k o in
+    rw (entry-in t k f) (held-ids (sideOf (imageIn t k .own)) (held-of (imageIn t k .own) (w .0)), held-ids (sideOf (imageIn t k .peer)) (held-of (imageIn t k .peer) (w .1)))
 
-pub ids-at : (t : List ℕ) (k : ℕ) → Octets t → Ids (entryAt t k .own) × Ids (entryAt t k .peer)
-unfolding entryAt
-ids-at t k o = entry-ids (imageAt t k) (octet-below t (size * k + 1) o) (octet-below t (size * k + 3) o)
-
-pub valid-with : (t : List ℕ) (k : ℕ) (e : Entry) → valid t ≡ true → k < 14 → holds e ≡ true → valid (withEntry t k e) ≡ true
-valid-with t k e h l g =
+pub valid-with : (t : List ℕ) (k : ℕ) (e : Entry) → valid t ≡ true → k < 14 → holds e ≡ true → Ids (e .own) → Ids (e .peer) → valid (withEntry t k e) ≡ true
+valid-with t k e h l g x y =
     let v = valid-each t h in
-    let f : size * k + size ≤ length t = omega (arith, v .0) in
+    let f = fits-at t k h l in
     each-valid (withEntry t k e) (length-with t k e f ∙ v .0) (λ j m. here-or f (v .1) j m (eqb j k) refl)
   where
     here-or : size * k + size ≤ length t → ((j : ℕ) → j < 14 → soundImage (imageAt t j) ≡ true) → (j : ℕ) → j < 14 → (b : Bool) → eqb j k ≡ b
         → soundImage (imageAt (withEntry t k e) j) ≡ true
-    here-or f v j m true q = rw (eqb-true j k q, image-written t k e f) (image-sound (e .isOpen) (e .own) (e .peer) g)
+    here-or f v j m true q = rw (eqb-true j k q, image-written t k e f) (image-sound e g x y)
     here-or f v j m false q = rw (images-stay t j k e f (eqb-false j k q)) (v j m)
 
--- the octets of an image, written where they stood
-abbrev imageOctets : Image → List ℕ
-imageOctets i = i .state ∷ i .ownId ∷ i .ownOperation ∷ i .peerId ∷ i .peerOperation ∷ []
-
-five : (t : List ℕ) (k i : ℕ) → i < 5 → getD (imageOctets (imageAt t k)) i 0 ≡ getD t (size * k + i) 0
-five t k zero l = ap (λ (n : ℕ). getD t n 0) (sym (add-zero (size * k)))
-five t k (suc zero) l = refl
-five t k (suc (suc zero)) l = refl
-five t k (suc (suc (suc zero))) l = refl
-five t k (suc (suc (suc (suc zero)))) l = refl
-five t k (suc (suc (suc (suc (suc i))))) l = absurd (omega arith)
-
-same-octet : (t : List ℕ) (k : ℕ) → size * k + size ≤ length t → (i : ℕ) (b c : Bool) → ltb i (size * k) ≡ b → ltb i (size * k + size) ≡ c
-    → getD (splice t (size * k) (imageOctets (imageAt t k))) i 0 ≡ getD t i 0
-same-octet t k f i true c p q =
-    let z = ltb-true i (size * k) p in
-    getD-before t (size * k) (imageOctets (imageAt t k)) i (omega arith) (omega arith)
-same-octet t k f i false false p q =
-    let z = ltb-false i (size * k + size) q in
-    getD-behind t (size * k) (imageOctets (imageAt t k)) i (omega arith) (omega arith)
-same-octet t k f i false true p q =
-    let z = ltb-false i (size * k) p in
-    let y = ltb-true i (size * k + size) q in
-    let e : i ≡ size * k + (i - size * k) = omega arith in
-    rw e (getD-within t (size * k) (imageOctets (imageAt t k)) (i - size * k) (omega arith) (omega arith) ∙ five t k (i - size * k) (omega arith))
-
--- an entry written back unchanged changes nothing
-pub same-again : (t : List ℕ) (k : ℕ) → valid t ≡ true → k < 14 → Octets t → withEntry t k (entryAt t k) ≡ t
-unfolding withEntry entryOctets entryAt
-same-again t k h l o =
-    let v = valid-each t h in
-    let f : size * k + size ≤ length t = omega (arith, v .0) in
-    let e = image-back (imageAt t k) (v .1 k l) (octet-below t (size * k + 1) o) (octet-below t (size * k + 3) o) in
-    ap (λ (i : Image). splice t (size * k) (imageOctets i)) e
-    ∙ ext-getD 0 (splice t (size * k) (imageOctets (imageAt t k))) t (length-splice t (size * k) (imageOctets (imageAt t k)) f)
-    (λ i m. same-octet t k f i (ltb i (size * k)) (ltb i (size * k + size)) refl refl)
-
-pub valid-zero : valid (replicate 70 0) ≡ true
-unfolding valid soundEntries soundImage
+pub valid-zero : valid (replicate 238 0) ≡ true
+unfolding valid soundEntries soundImage soundSide entryOf stateOf sideOf
 valid-zero = refl
 
-pub zero-closed : (k : ℕ) → k < 14 → entryAt (replicate 70 0) k ≡ closed
-unfolding entryAt entryOf
-zero-closed k l = rw (getD-replicate {A = ℕ} 70 (size * k) 0 0 (omega arith))
+zero-part : (i j : ℕ) → i + 8 ≡ j → j ≤ 238 → between i j (replicate 238 0) ≡ replicate 8 0
+zero-part i j e l =
+    let n : length (between i j (replicate {A = ℕ} 238 0)) ≡ 8 = length-between i j (replicate 238 0) (rw (length-replicate {A = ℕ} 238 0) l) ∙ omega arith in
+    ext-getD 0 (between i j (replicate 238 0)) (replicate 8 0) n
+    (λ k x. getD-between i j (replicate 238 0) k (omega (arith, n)) ∙ getD-replicate {A = ℕ} 238 (i + k) 0 0 (omega (arith, n)) ∙ sym (getD-replicate {A = ℕ} 8 k 0 0 (omega (arith, n))))
+
+pub zero-closed : (k : ℕ) → k < 14 → entryAt (replicate 238 0) k ≡ closed
+unfolding entryOf sideOf
+zero-closed k l =
+    let f : size * k + size ≤ length (replicate {A = ℕ} 238 0) = rw (length-replicate {A = ℕ} 238 0) (omega arith) in
+    rw (
+      entry-in (replicate 238 0) k f,
+      getD-replicate {A = ℕ} 238 (size * k) 0 0 (omega arith),
+      zero-part (size * k + 1) (size * k + 9) (omega arith) (omega arith),
+      zero-part (size * k + 9) (size * k + 17) (omega arith) (omega arith),
+    )
 
 -- what holds of v and of all behind it
 here-or-on : (t : List ℕ) (v w : ℕ) → entryAt t v .isOpen ≡ true → ((j : ℕ) → suc v ≤ j → j < w → entryAt t j .isOpen ≡ true)

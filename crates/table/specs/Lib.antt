@@ -1,2 +1,4 @@
 pub mod Table
+pub mod Change
 pub mod Seen
+pub mod Raw

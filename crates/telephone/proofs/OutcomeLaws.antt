@@ -10,6 +10,7 @@ use Rattle.octets.specs.Reader.{fault, sound}
 use Rattle.octets.specs.Splice.{splice}
 use Rattle.octets.proofs.SpliceLaws.{splice-front}
 use Rattle.table.specs.Table.{size, entryAt}
+use Rattle.table.specs.Change.{changed, withChange}
 use Rattle.table.proofs.TableLaws.{others-stay}
 use Rattle.deciding.specs.Decision.{Decision, silent, withCause, withReject, onReject, released, taken}
 use Rattle.deciding.specs.Steps.{pickedEntry}
@@ -42,13 +43,13 @@ module _ (t m b : List ℕ) where
 
   -- no entry changes but the message's own
   pub others-kept : (d : Decision) (j : ℕ) → size * pickedEntry m + size ≤ length t → (j ≡ pickedEntry m → ⊥) → entryAt (act t m b d .table) j ≡ entryAt t j
-  unfolding act
+  unfolding act withChange
   others-kept (silent code) j h n = refl
   others-kept (withCause number) j h n = others-stay t j (pickedEntry m) _ h n
   others-kept (withReject id tag number) j h n = others-stay t j (pickedEntry m) _ h n
   others-kept (onReject shown) j h n = others-stay t j (pickedEntry m) _ h n
   others-kept (released shown cause) j h n = others-stay t j (pickedEntry m) _ h n
-  others-kept (taken entry shown) j h n = others-stay t j (pickedEntry m) _ h n
+  others-kept (taken change shown) j h n = others-stay t j (pickedEntry m) _ h n
 
 module _ (t b : List ℕ) (value : Sending → ℕ) where
   pub call-refused : (n : ℕ) → callOutcome t b value (fault n) ≡ untouched t b n
@@ -61,4 +62,5 @@ module _ (t b : List ℕ) (value : Sending → ℕ) where
   message-behind s = behind-stays b (s .message)
 
   pub call-others : (s : Sending) (j : ℕ) → size * s .entry + size ≤ length t → (j ≡ s .entry → ⊥) → entryAt (callOutcome t b value (sound s) .table) j ≡ entryAt t j
-  call-others s j h n = others-stay t j (s .entry) (s .becomes) h n
+  unfolding withChange
+  call-others s j h n = others-stay t j (s .entry) (changed (entryAt t (s .entry)) (s .change)) h n

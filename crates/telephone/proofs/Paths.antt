@@ -1,6 +1,6 @@
 -- What the definitions say on each path through the code.
 use Prim.Native.Nat.{ℕ, zero, suc, _+_, _*_, _≤_, _<_}
-use mathlib.Core.Path.{_≡_, refl, sym, ap, _∙_}
+use mathlib.Core.Path.{_≡_, refl, sym, ap, subst, _∙_}
 use mathlib.Core.List.{List, []}
 use mathlib.Core.Bool.{Bool, true, false, cond}
 use mathlib.Core.Option.{Option, none, some}
@@ -19,14 +19,17 @@ use Rattle.components.specs.Written.{componentOctets, resultFor, codedLength, r
 use Rattle.messages.specs.Layout.{flag, value, register, facilityMessage}
 use Rattle.octets.specs.Seen.{partFound, PartWithin}
 use Rattle.octets.specs.declared.MaybePart.{MaybePart}
-use Rattle.table.specs.Table.{size, valid, lowestClosed, withEntry}
+use Rattle.table.specs.Table.{closed, entryAt, valid, lowestClosed, withEntry}
+use Rattle.table.specs.Change.{closes, changed, withChange, CanChange}
+use Rattle.table.specs.Seen.{changeSeen}
+use Rattle.table.specs.declared.Change.{Change}
 use Rattle.table.proofs.TableLaws.{lowest-closed-is}
 use Rattle.calling.specs.Calls.{Sending, orRefused, fitting, sendBegin}
 use Rattle.calling.proofs.Lengths.{register-octets, facility-invoke, facility-error, facility-answer}
 use Rattle.showing.specs.Views.{componentView, textView, causeView}
 use Rattle.deciding.specs.Decision.{Decision}
 use Rattle.deciding.specs.Steps.{firstOctet, pickedEntry}
-use Rattle.deciding.specs.Seen.{toldSeen, actSeen, ActWithin, decisionSeen, DecisionWithin, actsNot, isSilent, Ready}
+use Rattle.deciding.specs.Seen.{toldSeen, actSeen, ActWithin, decisionSeen, DecisionWithin, actsNot, isSilent, Ready, Keeps}
 use Rattle.deciding.specs.declared.Told.{Told}
 use Rattle.deciding.specs.declared.Act.{Act}
 use Rattle.deciding.specs.declared.Decision.{Decision as Made}
@@ -40,10 +43,22 @@ place-most : (b : Bool) (v : ℕ) → v < 7 → cond b v (7 + v) < 14
 place-most true v h = omega arith
 place-most false v h = omega arith
 
--- the entry of a message that is acted on lies in the image
-pub entry-fits : (t m : List ℕ) (room : ℕ) → Ready t m room → size * pickedEntry m + size ≤ length t
+-- the entry of a message that is acted on is one of a sound image
+pub entry-there : (t m : List ℕ) (room : ℕ) → Ready t m room → (valid t ≡ true) × (pickedEntry m < 14)
 unfolding pickedEntry
-entry-fits t m room h = let k = place-most (eqb (flag (firstOctet m)) 1) (value (firstOctet m)) (h .1 .1 .1) in let l = h .0 in omega arith
+entry-there t m room h = (h .0, place-most (eqb (flag (firstOctet m)) 1) (value (firstOctet m)) (h .1 .1 .1))
+
+-- a change that is taken can be made
+pub taken-there : (t m : List ℕ) (room : ℕ) (d : Made) (c : Change) → d .act ≡ Act.Taken c → Ready t m room → Keeps (entryAt t (pickedEntry m)) (decisionSeen (drop 2 m) d)
+    → CanChange t (pickedEntry m) (changeSeen c)
+taken-there t m room d c e r k =
+    let w = entry-there t m room r in
+    (w .0, (w .1, subst (λ (a : Act). Keeps (entryAt t (pickedEntry m)) (actSeen (drop 2 m) a (toldSeen (drop 2 m) (d .told)))) e k .0))
+
+-- the change that closes leaves a closed entry
+pub closes-is : (t : List ℕ) (k : ℕ) → withChange t k closes ≡ withEntry t k closed
+unfolding withChange changed
+closes-is t k = refl
 
 -- nothing written leaves the buffer as lent
 pub splice-none : (b : List ℕ) → b ≡ splice b 0 []
@@ -95,7 +110,7 @@ module _ (t m b : List ℕ) where
   whole (Act.WithReject id tag number) told h w = rw (behind-head (h refl), w)
   whole Act.OnReject told h w = rw (behind-head (h refl))
   whole (Act.Released cause) told h w = rw (behind-head (h refl))
-  whole (Act.Taken slot) told h w = rw (behind-head (h refl))
+  whole (Act.Taken change) told h w = rw (behind-head (h refl))
 
   pub shown-as : (d : Made) (x : Acted) (p : List ℕ) (r : Received) → (isSilent d ≡ false → Ready t m (length b)) → DecisionWithin (drop 2 m) d → p ≡ drop 2 m
       → ActedAs (drop 2 m) x (act t m b (decisionSeen (drop 2 m) d))
@@ -112,13 +127,13 @@ module _ (t b : List ℕ) (value : Sending → ℕ) where
   refused-as o n e = rw (← e) (refl, (refl, refl))
 
   pub sent-as : (o : Answer Sending) (s : Sending) (v w : ℕ) (b′ t′ : List ℕ) → sound s ≡ o → v ≡ value s → w ≡ length (s .message)
-      → b′ ≡ splice b 0 (s .message) → t′ ≡ withEntry t (s .entry) (s .becomes)
+      → b′ ≡ splice b 0 (s .message) → t′ ≡ withChange t (s .entry) (s .change)
       → (record { code = 0; value = v; written = w } ≡ calledOf (callOutcome t b value o)) × ((b′ ≡ callOutcome t b value o .buffer) × (t′ ≡ callOutcome t b value o .table))
   sent-as o s v w b′ t′ e x l f g =
       let z : record { code = 0; value = v; written = w } ≡ calledOf (callOutcome t b value (sound s)) = λ i. record { code = 0; value = x i; written = l i } in
       rw (← e) (z, (f, g))
 
-named-value : (o : Option ℕ) (v : ℕ) → orRefused 21 o ≡ sound v → o ≡ some v
+pub named-value : (o : Option ℕ) (v : ℕ) → orRefused 21 o ≡ sound v → o ≡ some v
 named-value none v e = cc
 named-value (some k) v e = ap some (sound-inj e)
 

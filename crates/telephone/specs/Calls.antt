@@ -6,7 +6,7 @@ use lib.IntN.{ℤ}
 use lib.ListN.{length}
 use Rattle.octets.specs.Reader.{Answer, fault, sound}
 use Rattle.octets.specs.Splice.{splice}
-use Rattle.table.specs.Table.{withEntry}
+use Rattle.table.specs.Change.{withChange}
 use Rattle.calling.specs.Calls.{Sending}
 use Rattle.calling.specs.Calls as calls
 use Rattle.telephone.specs.Outcome.{Outcome, untouched}
@@ -22,7 +22,7 @@ callOutcome table buffer value (sound s) =
       shown = none;
       cause = none;
       buffer = splice buffer 0 (s .message);
-      table = withEntry table (s .entry) (s .becomes);
+      table = withChange table (s .entry) (s .change);
     }
 
 abbrev pub noValue : Sending → ℕ

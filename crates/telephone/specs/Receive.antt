@@ -9,6 +9,7 @@ use Rattle.components.specs.Component.{reject}
 use Rattle.components.specs.Written.{componentOctets}
 use Rattle.messages.specs.Layout.{releaseEmpty, releaseCause, releaseFacility}
 use Rattle.table.specs.Table.{closed, withEntry}
+use Rattle.table.specs.Change.{withChange}
 use Rattle.deciding.specs.Decision.{Decision, silent, withCause, withReject, onReject, released, taken, shownBy}
 use Rattle.deciding.specs.Steps.{pickedEntry, replyFirst, decide}
 use Rattle.telephone.specs.Outcome.{Outcome}
@@ -20,7 +21,7 @@ verdictOf (withCause number) = 2
 verdictOf (withReject id tag number) = 3
 verdictOf (onReject shown) = 4
 verdictOf (released shown cause) = 5
-verdictOf (taken entry shown) = 0
+verdictOf (taken change shown) = 0
 
 -- "Sent"
 abbrev pub sentBy : List ℕ → Decision → List ℕ
@@ -29,7 +30,7 @@ sentBy m (withCause number) = releaseCause (replyFirst m) number
 sentBy m (withReject id tag number) = releaseFacility (replyFirst m) (componentOctets (reject id tag number))
 sentBy m (onReject shown) = releaseEmpty (replyFirst m)
 sentBy m (released shown cause) = []
-sentBy m (taken entry shown) = []
+sentBy m (taken change shown) = []
 
 -- "Table"
 abbrev pub tableBy : List ℕ → List ℕ → Decision → List ℕ
@@ -38,7 +39,7 @@ tableBy table m (withCause number) = withEntry table (pickedEntry m) closed
 tableBy table m (withReject id tag number) = withEntry table (pickedEntry m) closed
 tableBy table m (onReject shown) = withEntry table (pickedEntry m) closed
 tableBy table m (released shown cause) = withEntry table (pickedEntry m) closed
-tableBy table m (taken entry shown) = withEntry table (pickedEntry m) entry
+tableBy table m (taken change shown) = withChange table (pickedEntry m) change
 
 abbrev pub causeBy : Decision → Option (Taken (List ℕ))
 causeBy (silent code) = none
@@ -46,7 +47,7 @@ causeBy (withCause number) = none
 causeBy (withReject id tag number) = none
 causeBy (onReject shown) = none
 causeBy (released shown cause) = cause
-causeBy (taken entry shown) = none
+causeBy (taken change shown) = none
 
 -- "In every call buffer octets after what is written stay as lent."
 unfoldable pub act : List ℕ → List ℕ → List ℕ → Decision → Outcome

@@ -34,12 +34,12 @@ pub extern "C" fn smr_begin(
         }
         Call::Goes {
             entry,
-            slot,
+            change,
             operation: _,
         } => {
             let first = messages::layout::sent_first(1, entry);
             let written = sending::put_register(buffer, first, id, operation, parameter);
-            table::write_entry(table, entry, slot);
+            table::change_entry(table, entry, change);
             return Called {
                 code: 0,
                 value: entry,
@@ -73,12 +73,12 @@ pub extern "C" fn smr_invoke(
         }
         Call::Goes {
             entry,
-            slot,
+            change,
             operation: _,
         } => {
             let first = messages::layout::sent_first(flag, value);
             let written = sending::put_invoke(buffer, first, id, operation, parameter);
-            table::write_entry(table, entry, slot);
+            table::change_entry(table, entry, change);
             return Called {
                 code: 0,
                 value: 0,
@@ -111,12 +111,12 @@ pub extern "C" fn smr_result(
         }
         Call::Goes {
             entry,
-            slot,
+            change,
             operation,
         } => {
             let first = messages::layout::sent_first(flag, value);
             let written = sending::put_answer(buffer, first, id, operation, parameter);
-            table::write_entry(table, entry, slot);
+            table::change_entry(table, entry, change);
             return Called {
                 code: 0,
                 value: 0,
@@ -150,12 +150,12 @@ pub extern "C" fn smr_error(
         }
         Call::Goes {
             entry,
-            slot,
+            change,
             operation: _,
         } => {
             let first = messages::layout::sent_first(flag, value);
             let written = sending::put_error(buffer, first, id, code, parameter);
-            table::write_entry(table, entry, slot);
+            table::change_entry(table, entry, change);
             return Called {
                 code: 0,
                 value: 0,
@@ -181,12 +181,12 @@ pub extern "C" fn smr_release(table: &mut [u8], flag: u8, value: u8, buffer: &mu
         }
         Call::Goes {
             entry,
-            slot,
+            change,
             operation: _,
         } => {
             let first = messages::layout::sent_first(flag, value);
             let written = sending::put_release(buffer, first);
-            table::write_entry(table, entry, slot);
+            table::change_entry(table, entry, change);
             return Called {
                 code: 0,
                 value: 0,

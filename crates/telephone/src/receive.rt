@@ -6,16 +6,16 @@ use octets::MaybePart;
 use showing::CauseView;
 use showing::ComponentView;
 use showing::TextView;
-use table::Invoke;
-use table::Slot;
+use table::Change;
 ghost use mathlib.Core.Path.{_≡_};
-ghost use mathlib.Core.Bool.{false};
-ghost use Prim.Native.Nat.{_+_, _*_, _≤_};
+ghost use mathlib.Core.Bool.{true, false};
+ghost use Prim.Native.Nat.{_+_, _<_};
 ghost use lib.ListN.{length, drop};
 ghost use Rattle.octets.specs.Part.{placeAt};
 ghost use Rattle.octets.specs.Seen.{partFound, PartWithin};
-ghost use Rattle.table.specs.Table.{size, closed, withEntry};
-ghost use Rattle.deciding.specs.Seen.{toldSeen, ToldWithin, decisionSeen, DecisionWithin, isSilent, Ready};
+ghost use Rattle.table.specs.Table.{entries, closed, entryAt, valid, withEntry};
+ghost use Rattle.deciding.specs.Steps.{pickedEntry};
+ghost use Rattle.deciding.specs.Seen.{toldSeen, ToldWithin, decisionSeen, DecisionWithin, isSilent, Ready, Keeps};
 ghost use Rattle.telephone.specs.Receive.{act, receive};
 ghost use Rattle.telephone.specs.Stands.{IsShownParameter, shownStart};
 ghost use Rattle.telephone.specs.FromC.{shownAs, receivedOf, withoutCause, ActedAs};
@@ -59,15 +59,10 @@ fn show(s: &[u8], code: u8, written: usize, told: Told, cause: MaybePart) -> Rec
 
 // Closes an entry.
 fn close(table: &mut [u8], k: u8)
-    requires { ⌜ size * k + size ≤ length (now table) ⌝ }
+    requires { ⌜ (valid (now table) ≡ true) × (k < entries) ⌝ }
     ensures { λ _. ⌜ now (table .exit) ≡ withEntry (now (table .entry)) k closed ⌝ }
 {
-    let closed = Slot {
-        open: false,
-        own: Invoke::Absent,
-        peer: Invoke::Absent,
-    };
-    table::write_entry(table, k, closed);
+    table::change_entry(table, k, Change::Closes);
 }
 
 // What is done: the verdict or the refusal, how many octets are written, and where the cause stands.
@@ -90,7 +85,7 @@ fn done(code: u8, written: usize) -> Acted
 
 // The table of verdicts: what is sent, and what becomes of the entry.
 fn act(table: &mut [u8], message: &[u8], reply: &mut [u8], decision: Decision) -> Acted
-    requires { ⌜ (isSilent decision ≡ false → Ready (now table) (now message) (length (now reply))) × DecisionWithin (drop 2 (now message)) decision ⌝ }
+    requires { ⌜ (isSilent decision ≡ false → Ready (now table) (now message) (length (now reply))) × (DecisionWithin (drop 2 (now message)) decision × Keeps (entryAt (now table) (pickedEntry (now message))) (decisionSeen (drop 2 (now message)) decision)) ⌝ }
     ensures returned { λ r. ⌜ ActedAs (drop 2 (now (message .entry))) r (act (now (table .entry)) (now (message .entry)) (now (reply .entry)) (decisionSeen (drop 2 (now (message .entry))) decision)) ⌝ }
     ensures reply { λ _. ⌜ now (reply .exit) ≡ act (now (table .entry)) (now (message .entry)) (now (reply .entry)) (decisionSeen (drop 2 (now (message .entry))) decision) .buffer ⌝ }
     ensures table { λ _. ⌜ now (table .exit) ≡ act (now (table .entry)) (now (message .entry)) (now (reply .entry)) (decisionSeen (drop 2 (now (message .entry))) decision) .table ⌝ }
@@ -125,8 +120,8 @@ fn act(table: &mut [u8], message: &[u8], reply: &mut [u8], decision: Decision) -
                 cause: cause,
             };
         }
-        Act::Taken(slot) => {
-            table::write_entry(table, k, slot);
+        Act::Taken(change) => {
+            table::change_entry(table, k, change);
             return done(0, 0);
         }
     }

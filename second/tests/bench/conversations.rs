@@ -2,12 +2,15 @@
 
 use crate::call::Call;
 use crate::chance::Chance;
+use crate::damage;
+use crate::growing;
 use crate::messages;
 use crate::occurrences::Occurrences;
 use crate::proved::compare;
 use crate::rare;
 use crate::tables;
 use crate::talk::Talk;
+use crate::waiting::grown;
 use crate::wishes;
 use crate::writing::{self, blanks, with_octets};
 
@@ -27,14 +30,17 @@ fn conversations() {
     occurrences.check();
 }
 
+/// In two of three the table grows from zeros by what is said alone: other tables
+/// are set for a call or a few, and then the one before again.
 fn conversation(seed: u64) -> Talk {
     let mut c = Chance::new(7_919 * seed);
     let mut talk = Talk::default();
+    let grows = !seed.is_multiple_of(3);
     while talk.lines < LINES {
         match c.below(100) {
-            0..=1 => set_table(&mut c, &mut talk),
-            2 => damage(&mut c, &mut talk),
-            3..=5 => talk.say(b"table"),
+            0..=1 if !grows => set_table(&mut c, &mut talk),
+            2..=3 => damage(&mut c, &mut talk),
+            4..=5 => talk.say(b"table"),
             6..=11 => short_of_room(&mut c, &mut talk),
             12 => talk.say(passed_over(&mut c)),
             13..=15 => {
@@ -42,11 +48,18 @@ fn conversation(seed: u64) -> Talk {
                 talk.say(writing::spoiled(&mut c, &line));
             }
             16 if c.one_in(2) => talk.say(over(&mut c)),
-            17..=26 => rare_call(&mut c, &mut talk),
+            17..=32 => rare_call(&mut c, &mut talk, grows),
+            33..=60 if grows => grow(&mut c, &mut talk),
             _ => one_call(&mut c, &mut talk),
         }
     }
     talk
+}
+
+fn grow(c: &mut Chance, talk: &mut Talk) {
+    let call = growing::call(c, talk.sound());
+    talk.call(c, &call);
+    talk.met.extend(grown(talk.sound()));
 }
 
 /// A message or a call that suits the table more or less.
@@ -73,7 +86,10 @@ fn table(c: &mut Chance, image: &[u8]) -> Vec<u8> {
 
 fn set_table(c: &mut Chance, talk: &mut Talk) {
     let image = match c.below(4) {
-        0 => tables::named(c.pick(&["fresh", "w1", "both17", "other17", "full", "crowded"])),
+        0 => tables::named(c.pick(&[
+            "fresh", "w1", "both17", "other17", "full", "crowded", "owns3", "owns4", "peers3",
+            "peers4", "eight", "apart",
+        ])),
         _ => tables::random(c),
     };
     talk.say(table(c, &image));
@@ -81,28 +97,41 @@ fn set_table(c: &mut Chance, talk: &mut Talk) {
 
 /// A damaged image, or one of another length, for a call or a few.
 fn damage(c: &mut Chance, talk: &mut Talk) {
-    let image = match c.below(4) {
-        0 => {
-            let length = c.pick(&[1, 2, 69, 71, 299, 300, 301, 302]);
-            c.octets(length)
-        }
-        _ => tables::spoiled(c, talk.sound()),
-    };
     let sound = talk.sound().to_vec();
+    let (image, met) = match c.below(8) {
+        0 => {
+            let length = c.pick(&[1, 2, 69, 70, 237, 239, 299, 300, 301, 302]);
+            (c.octets(length), None)
+        }
+        1 => (damage::changed(c, &sound), None),
+        _ => {
+            let (image, kind, _) = damage::damaged(c, &sound);
+            (image, Some(("damaged", kind as u8 + 1)))
+        }
+    };
     talk.say(table(c, &image));
     for _ in 0..c.range(1, 3) {
         one_call(c, talk);
+        // A line without octets sets none.
+        if talk.table() == image {
+            talk.met.extend(met);
+        }
     }
     talk.say(b"table");
     talk.say(table(c, &sound));
 }
 
-/// A call that is rare by chance, from a table that suits it.
-fn rare_call(c: &mut Chance, talk: &mut Talk) {
-    let mut image = talk.sound().to_vec();
+/// A call that is rare by chance, from a table that suits it; then perhaps the one
+/// before again.
+fn rare_call(c: &mut Chance, talk: &mut Talk, goes_back: bool) {
+    let sound = talk.sound().to_vec();
+    let mut image = sound.clone();
     let call = rare::call(c, &mut image);
     talk.say(table(c, &image));
     talk.call(c, &call);
+    if goes_back {
+        talk.say(table(c, &sound));
+    }
 }
 
 /// A buffer at the edge of what a call needs, or any other, then a long one.

@@ -20,6 +20,8 @@ const LINES: &[(&str, &str)] = &[
     ("w1", "result 0 0 5 300604010F040131"),
     ("w1", "result 0 0 5"),
     ("both17", "error 1 0 7 38 0a0101"),
+    ("owns3", "invoke 1 0 10 2 0500"),
+    ("peers4", "result 0 0 8"),
     ("w1", "error 0 0 5 1"),
     ("w1", "release 0 0"),
     ("own59", "release 1 0"),
@@ -283,7 +285,7 @@ fn hex_writings() {
         lines.from(table);
         let words = line.split(' ');
         let words: Vec<String> = words.filter(|w| is_kept(w)).map(str::to_string).collect();
-        let count = c.pick(&[0, 1, 2, 3, 20, 70, 255, 256, 299, 300, 301]);
+        let count = c.pick(&[0, 1, 2, 3, 20, 70, 237, 238, 239, 255, 256, 299, 300, 301]);
         let octets = c.octets(count);
         let right = with_octets(&mut c, &words, &octets);
         lines.add(spoiled(&mut c, &right));

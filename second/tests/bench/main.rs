@@ -15,8 +15,12 @@ mod chance;
 mod codes;
 #[path = "../compare/components.rs"]
 mod components;
+#[path = "../compare/damage.rs"]
+mod damage;
 #[path = "../compare/errors.rs"]
 mod errors;
+#[path = "../compare/growing.rs"]
+mod growing;
 #[path = "../compare/messages.rs"]
 mod messages;
 #[path = "../compare/met.rs"]
@@ -35,6 +39,8 @@ mod report;
 mod tables;
 #[path = "../compare/texts.rs"]
 mod texts;
+#[path = "../compare/waiting.rs"]
+mod waiting;
 #[path = "../compare/wishes.rs"]
 mod wishes;
 

@@ -35,7 +35,9 @@ fn octets_in_a_line() {
     let mut lines = Vec::new();
     for words in WITH_HEX {
         for between in ["", " "] {
-            for count in [255, 256, 299, 300, 301, 4_095, 4_096, 4_097, 4_098] {
+            for count in [
+                237, 238, 239, 255, 256, 299, 300, 301, 4_095, 4_096, 4_097, 4_098,
+            ] {
                 let line = hexed(words, count, between);
                 let behind = [
                     "", " ", "\r", "0", " 0", "Z", " Z", "0Z", "00Z", " 0 0", " #",

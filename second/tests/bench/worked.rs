@@ -35,6 +35,16 @@ message 0B 3B 1C 0B A1 09 02 01 01 02 01
 
 ";
 
+/// The network's value 0 with 5:60, 6:18, 7:61 and 8:60.
+const FOUR_WAIT: &str = "table \
+    00000000000000000000000000000000000000000000000000000000000000000000 \
+    00000000000000000000000000000000000000000000000000000000000000000000 \
+    00000000000000000000000000000000000000000000000000000000000000000000 \
+    0000000000000000000000000000000000050000000000000000053C0612073D083C \
+    00000000000000000000000000000000000000000000000000000000000000000000 \
+    00000000000000000000000000000000000000000000000000000000000000000000 \
+    00000000000000000000000000000000000000000000000000000000000000000000";
+
 const GET_PASSWORD_ANSWER: &str = "\
 verdict 0 taken
 invoke 5
@@ -466,6 +476,154 @@ cause E0 9D
             "verdict 5 network released\ncause\n\n",
         ],
     ),
+    // Four of the peer's, answered in another order; one that doesn't wait any more.
+    // Four of ours, a fifth, one under an id that waits, a getPassword linked to the
+    // first; a result to the second and an error to the fourth; its id again.
+    (
+        &[
+            W1,
+            "receive 0B3A 0BA1090201060201120A0100",
+            "receive 0B3A 10A10E02010702013D300604010F040141",
+            "receive 0B3A 10A10E02010802013C300604010F040141",
+            "result 0 0 6 120430393331",
+            "result 0 0 6 120430393331",
+            "error 0 0 8 72",
+            "result 0 0 5",
+            REGISTER_PASSWORD,
+            "invoke 1 0 59 2 300604010F040141",
+            "invoke 1 0 11 2 3003040111",
+            "invoke 1 0 11 3 3003040111",
+            "invoke 1 0 10 4 0500",
+            "invoke 1 0 10 5 0500",
+            "receive 8B3A 0EA10C0201098001010201120A0100",
+            "receive 8B3A 12A210020102300B02013B300604010F040141",
+            "receive 8B3A 08A306020104020122",
+            "invoke 1 0 10 2 0500",
+            "table",
+        ],
+        &[
+            W1_ANSWER,
+            "verdict 0 taken\ninvoke 6\noperation 18\nparameter 0A 01 00\n\n",
+            "\
+verdict 0 taken
+invoke 7
+operation 61
+parameter 30 06 04 01 0F 04 01 41
+scheme 0F
+string 41
+lines 1
+A
+tail
+
+",
+            "\
+verdict 0 taken
+invoke 8
+operation 60
+parameter 30 06 04 01 0F 04 01 41
+scheme 0F
+string 41
+lines 1
+A
+tail
+
+",
+            "\
+done 0
+message 8B 3A 10 A2 0E 02 01 06 30 09 02
+ 01 12 12 04 30 39 33 31
+
+",
+            "refused 24 no such invoke\n\n",
+            "done 0\nmessage 8B 3A 08 A3 06 02 01 08 02 01 48\n\n",
+            "done 0\nmessage 8B 3A 05 A2 03 02 01 05\n\n",
+            REGISTER_PASSWORD_ANSWER,
+            "\
+done 0
+message 0B 3A 10 A1 0E 02 01 02 02 01 3B
+ 30 06 04 01 0F 04 01 41
+
+",
+            "refused 23 still waiting\n\n",
+            "\
+done 0
+message 0B 3A 0D A1 0B 02 01 03 02 01 0B
+ 30 03 04 01 11
+
+",
+            "done 0\nmessage 0B 3A 0A A1 08 02 01 04 02 01 0A\n 05 00\n\n",
+            "refused 23 still waiting\n\n",
+            "\
+verdict 0 taken
+invoke 9
+linked 1
+operation 18
+parameter 0A 01 00
+
+",
+            "\
+verdict 0 taken
+result 2
+operation 59
+parameter 30 06 04 01 0F 04 01 41
+scheme 0F
+string 41
+lines 1
+A
+tail
+
+",
+            "verdict 0 taken\nerror 4\ncode 34\n\n",
+            "done 0\nmessage 0B 3A 0A A1 08 02 01 02 02 01 0A\n 05 00\n\n",
+            "\
+table 07 01 11 03 0B 02 0A 00 00 09 12
+ 00 00 00 00 00 00 00 00 00 00 00 00 00
+ 00 00 00 00 00 00 00 00 00 00 00 00 00
+ 00 00 00 00 00 00 00 00 00 00 00 00 00
+ 00 00 00 00 00 00 00 00 00 00 00 00 00
+ 00 00 00 00 00 00 00 00 00 00 00 00 00
+ 00 00 00 00 00 00 00 00 00 00 00 00 00
+ 00 00 00 00 00 00 00 00 00 00 00 00 00
+ 00 00 00 00 00 00 00 00 00 00 00 00 00
+ 00 00 00 00 05 00 00 00 00 00 00 00 00
+ 07 3D 00 00 00 00 00 00 00 00 00 00 00
+ 00 00 00 00 00 00 00 00 00 00 00 00 00
+ 00 00 00 00 00 00 00 00 00 00 00 00 00
+ 00 00 00 00 00 00 00 00 00 00 00 00 00
+ 00 00 00 00 00 00 00 00 00 00 00 00 00
+ 00 00 00 00 00 00 00 00 00 00 00 00 00
+ 00 00 00 00 00 00 00 00 00 00 00 00 00
+ 00 00 00 00 00 00 00 00 00 00 00 00 00
+ 00 00 00 00 00 00
+
+",
+        ],
+    ),
+    // Four of the peer's: the third again, even as a 38; then a fifth.
+    (
+        &[
+            FOUR_WAIT,
+            "receive 0B3A 08A106020107020126",
+            FOUR_WAIT,
+            "receive 0B3A 08A106020109020126",
+        ],
+        &[
+            "table set\n\n",
+            "\
+verdict 3 reject sent
+reply 8B 2A 1C 08 A4 06 02 01 07 81 01
+ 00
+
+",
+            "table set\n\n",
+            "\
+verdict 3 reject sent
+reply 8B 2A 1C 08 A4 06 02 01 09 81 01
+ 03
+
+",
+        ],
+    ),
     // The table and the buffer.
     (
         &[
@@ -484,10 +642,23 @@ cause E0 9D
             "\
 table 00 00 00 00 00 00 00 00 00 00 00
  00 00 00 00 00 00 00 00 00 00 00 00 00
- 00 00 00 00 00 00 00 00 00 00 00 05 00
- 00 05 3C 00 00 00 00 00 00 00 00 00 00
  00 00 00 00 00 00 00 00 00 00 00 00 00
- 00 00 00 00 00 00 00
+ 00 00 00 00 00 00 00 00 00 00 00 00 00
+ 00 00 00 00 00 00 00 00 00 00 00 00 00
+ 00 00 00 00 00 00 00 00 00 00 00 00 00
+ 00 00 00 00 00 00 00 00 00 00 00 00 00
+ 00 00 00 00 00 00 00 00 00 00 00 00 00
+ 00 00 00 00 00 00 00 00 00 00 00 00 00
+ 00 00 00 00 05 00 00 00 00 00 00 00 00
+ 05 3C 00 00 00 00 00 00 00 00 00 00 00
+ 00 00 00 00 00 00 00 00 00 00 00 00 00
+ 00 00 00 00 00 00 00 00 00 00 00 00 00
+ 00 00 00 00 00 00 00 00 00 00 00 00 00
+ 00 00 00 00 00 00 00 00 00 00 00 00 00
+ 00 00 00 00 00 00 00 00 00 00 00 00 00
+ 00 00 00 00 00 00 00 00 00 00 00 00 00
+ 00 00 00 00 00 00 00 00 00 00 00 00 00
+ 00 00 00 00 00 00
 
 ",
             "buffer 11\n\n",
@@ -563,6 +734,8 @@ fn by_hand() {
 #[test]
 fn by_hand_at_the_limits() {
     let hex = |count: usize| "00".repeat(count);
+    let open = format!("01{}", hex(16));
+    let begin = "begin 59 1".to_string();
     let lines = [
         format!("receive {}", hex(255)),
         format!("receive {}", hex(256)),
@@ -575,13 +748,19 @@ fn by_hand_at_the_limits() {
         format!("table {}", hex(300)),
         format!("table {}", hex(301)),
         format!("table {}", hex(4_097)),
-        format!("table {}", hex(70)),
+        format!("table {}", hex(238)),
         format!("#{}", " ".repeat(16_383)),
         format!("#{}", " ".repeat(16_384)),
-        format!("table {}", "0100000000".repeat(7)),
-        "begin 59 1".to_string(),
-        format!("table {} {}", "0100000000".repeat(7), hex(35)),
-        "begin 59 1".to_string(),
+        format!("table {}", hex(70)),
+        begin.clone(),
+        format!("table {}", hex(237)),
+        begin.clone(),
+        format!("table {}", hex(239)),
+        begin.clone(),
+        format!("table {}", open.repeat(7)),
+        begin.clone(),
+        format!("table {} {}", open.repeat(7), hex(119)),
+        begin,
     ];
     let expected = "\
 verdict 7 other protocol
@@ -609,6 +788,18 @@ line 11 too long
 table set
 
 line 14 too long
+
+table set
+
+refused 28 table damaged
+
+table set
+
+refused 28 table damaged
+
+table set
+
+refused 28 table damaged
 
 table set
 

@@ -62,6 +62,15 @@ const SUITED: &[Suited] = &[
     ("peer18", |p| Call::Result((0, 0), 5, p), "12810430393039"),
     ("peer61", |p| Call::Result((0, 0), 5, p), "none"),
     ("both17", |p| Call::Result((1, 0), 7, p), "120431323334"),
+    // Among others that wait, of ours and of the peer's.
+    ("owns3", |p| Call::Invoke((1, 0), 59, 9, p), TEXT),
+    ("owns2", |p| Call::Invoke((1, 0), 17, 0, p), "040192"),
+    ("peers4", |p| Call::Invoke((0, 0), 59, 5, p), TEXT),
+    ("peers4", |p| Call::Result((0, 0), 5, p), TEXT),
+    ("peers4", |p| Call::Result((0, 0), 6, p), "120431323334"),
+    ("eight", |p| Call::Result((1, 0), 7, p), "none"),
+    ("eight", |p| Call::Result((1, 0), 8, p), TEXT),
+    ("eight", |p| Call::Error((1, 0), 6, 72, p), "0A0101"),
     ("w1", |p| Call::Error((0, 0), 5, 1, p), "none"),
     ("peer18", |p| Call::Error((0, 0), 5, 34, p), "120420202020"),
     ("peer61", |p| Call::Error((0, 0), 5, 72, p), "0A0101"),
@@ -134,7 +143,8 @@ fn lengths() {
 #[test]
 fn operations_codes_and_ids() {
     for name in [
-        "fresh", "w1", "both17", "ownopen", "full", "crowded", "damaged",
+        "fresh", "w1", "both17", "ownopen", "full", "crowded", "damaged", "owns3", "owns4",
+        "peers4", "eight",
     ] {
         let table = tables::named(name);
         for number in 0..=255 {
@@ -142,6 +152,11 @@ fn operations_codes_and_ids() {
                 compare(&table, &Call::Begin(number, 3, p.clone()), 300);
                 compare(&table, &Call::Begin(59, number as i8, p.clone()), 300);
                 compare(&table, &Call::Invoke((0, 0), number, 3, p.clone()), 300);
+                compare(
+                    &table,
+                    &Call::Invoke((1, 0), 59, number as i8, p.clone()),
+                    300,
+                );
                 compare(&table, &Call::Error((0, 0), 5, number, p.clone()), 300);
                 compare(
                     &table,
@@ -158,7 +173,7 @@ fn operations_codes_and_ids() {
 /// Each flag and each value.
 #[test]
 fn names() {
-    for name in ["fresh", "w1", "full", "crowded", "damaged"] {
+    for name in ["fresh", "w1", "full", "crowded", "eight", "damaged"] {
         let table = tables::named(name);
         for flag in 0..=255 {
             for value in 0..=255 {

@@ -22,12 +22,28 @@ pub fn sent(kind: u8, (flag, value): Named, component: &[u8]) -> Vec<u8> {
     message
 }
 
+/// An Invoke in FACILITY, with a short parameter that suits if it is served.
+pub fn asked(named: Named, id: u8, linked: Option<u8>, operation: u8) -> Vec<u8> {
+    let mut places = vec![0x02, 0x01, id];
+    places.extend(linked.iter().flat_map(|linked| [0x80, 0x01, *linked]));
+    places.extend([0x02, 0x01, operation]);
+    match operation {
+        18 => places.extend([0x0A, 0x01, 0x00]),
+        60 | 61 => places.extend([0x30, 0x06, 0x04, 0x01, 0x0F, 0x04, 0x01, 0x41]),
+        _ => (),
+    }
+    let component = [vec![0xA1, places.len() as u8], places].concat();
+    sent(FACILITY, named, &component)
+}
+
 /// A component that got to step 6.
 pub struct Weighed {
     /// The message's kind.
     pub kind: u8,
     pub component: Component,
-    /// The operation of ours that waits there, or 0.
+    /// The entry as step 6 met it.
+    pub open: Open,
+    /// The operation of ours that waits under the id of a result or error, or 0.
     pub operation: u8,
     /// The number of its problem.
     pub problem: Option<u8>,
@@ -52,7 +68,8 @@ impl Weighed {
         let open = open(table, (first >> 7, first >> 4 & 7))?;
         Some(Weighed {
             kind,
-            operation: open.own.map_or(0, |own| own.operation),
+            open,
+            operation: operation(&component, open),
             problem: problem(&component, open),
             component,
         })
@@ -60,12 +77,21 @@ impl Weighed {
 }
 
 /// The entry as step 6 meets it.
-fn open(table: &[u8], (flag, value): Named) -> Option<Open> {
+pub fn open(table: &[u8], (flag, value): Named) -> Option<Open> {
     let transaction = Transaction::named(flag, value)?;
     match Table::decode(table)?.entry(transaction) {
         Entry::Open(open) => Some(open),
         Entry::Closed => Some(Open::default()),
     }
+}
+
+fn operation(component: &Component, open: Open) -> u8 {
+    let ours = match component {
+        Component::ReturnResult { id, .. } => open.own.with_id(*id),
+        Component::ReturnError { id, .. } => open.own.with_id(*id),
+        _ => None,
+    };
+    ours.map_or(0, |ours| ours.operation)
 }
 
 fn problem(component: &Component, open: Open) -> Option<u8> {

@@ -1,11 +1,18 @@
-//! The cases of firmware/cases.txt, on both, with their expected facts.
+//! The cases of firmware/cases.txt and of four.txt, with their expected facts: on both,
+//! those of four.txt on the second program alone too.
 
-use crate::both::{compare, Call, Facts, Named};
+use crate::both::{compare, on_second, pattern, Call, Facts, Named};
 use crate::notation::octets;
-use crate::tables;
+use crate::tables::{self, Entry, ENTRY};
 use second::ffi::Span;
 
 const FILE: &str = concat!(env!("CARGO_MANIFEST_DIR"), "/../firmware/cases.txt");
+
+/// The readings of "Four questions at once", by their numbers.
+const FOUR: &str = include_str!("four.txt");
+
+/// What runs a case: from this table, with a buffer of this length.
+type Run = fn(&[u8], &Call, usize) -> Facts;
 
 struct Case {
     call: Call,
@@ -18,19 +25,34 @@ struct Case {
 #[test]
 fn cases() {
     let text = std::fs::read_to_string(FILE).expect("the case file");
-    let lines = text
-        .lines()
-        .filter(|l| !l.is_empty() && !l.starts_with('#'));
-    let run: Vec<bool> = lines.map(run_line).collect();
-    assert!(run.len() > 100, "the cases are there");
-    assert!(run.iter().all(|held| *held), "a fact doesn't hold");
+    assert!(run(&text, compare) > 100, "the cases are there");
 }
 
-fn run_line(line: &str) -> bool {
+#[test]
+fn four() {
+    assert!(run(FOUR, compare) > 50, "the cases are there");
+}
+
+#[test]
+fn four_on_the_second_alone() {
+    let alone: Run = |table, call, room| on_second(table, call, pattern(room));
+    run(FOUR, alone);
+}
+
+/// Runs all lines; how many there are.
+fn run(text: &str, run: Run) -> usize {
+    let is_case = |line: &&str| !line.is_empty() && !line.starts_with('#');
+    let lines = text.lines().filter(is_case);
+    let held: Vec<bool> = lines.map(|line| run_line(line, run)).collect();
+    assert!(held.iter().all(|held| *held), "a fact doesn't hold");
+    held.len()
+}
+
+fn run_line(line: &str, run: Run) -> bool {
     let (left, facts) = line.split_once("->").expect("an arrow");
     let words: Vec<&str> = left.split_whitespace().collect();
     let case = read_case(&words[1..]);
-    let outcome = compare(&case.table, &case.call, case.room);
+    let outcome = run(&case.table, &case.call, case.room);
     let mut facts = facts.split(',').map(str::trim);
     let code = facts.next().expect("a code");
     let mut held = outcome.code().to_string() == code;
@@ -56,15 +78,37 @@ fn read_case(words: &[&str]) -> Case {
         "result" => 3,
         _ => 4,
     };
-    let (n, rest) = words[2..].split_at(numbers);
+    let (table, words_behind) = read_table(&words[1..]);
+    let (n, rest) = words_behind.split_at(numbers);
     let n: Vec<i32> = n.iter().map(|w| w.parse().expect("a number")).collect();
     let call = read_call(words[0], &n, octets(&rest.join(" ")));
     Case {
         entry: entry_of(&call),
         call,
-        table: tables::named(words[1]),
+        table,
         room,
     }
+}
+
+/// A table, and the words behind it: its name; zeros(N); or one entry, all others
+/// closed, o0= or n0= and its octets with blanks between them.
+fn read_table<'a>(words: &'a [&'a str]) -> (Vec<u8>, &'a [&'a str]) {
+    let (first, mut rest) = words.split_first().expect("a table");
+    if first.starts_with("zeros(") {
+        return (octets(first), rest);
+    }
+    let Some((named, start)) = first.split_once('=') else {
+        return (tables::named(first), rest);
+    };
+    let mut entry = octets(start);
+    while let (true, [more, behind @ ..]) = (entry.len() < ENTRY, rest) {
+        entry.extend(octets(more));
+        rest = behind;
+    }
+    let (side, value) = named.split_at(1);
+    let first = if side == "o" { 0 } else { 7 };
+    let place = first + value.parse::<usize>().expect("a value");
+    (tables::image(&[(place, entry)]), rest)
 }
 
 fn read_call(name: &str, n: &[i32], octets: Vec<u8>) -> Call {
@@ -102,10 +146,11 @@ fn holds(name: &str, wanted: &str, case: &Case, facts: &Facts) -> bool {
     match name {
         "reply" => facts.reply() == octets(wanted),
         "length" => facts.received.written.to_string() == wanted,
-        "entry" => {
-            let at = case.entry + 5 * usize::from(facts.value);
-            facts.table[at..at + 5] == octets(wanted)
-        }
+        "entry" => entry(case, facts)[..] == octets(wanted),
+        "own" => tables::owns_of(&entry(case, facts)) == tables::invokes(wanted),
+        "peers" => tables::peers_of(&entry(case, facts)) == tables::invokes(wanted),
+        "open" => (entry(case, facts)[0] != 0) == (wanted == "True"),
+        "kept" => (facts.table == case.table) == (wanted == "True"),
         "value" => facts.value.to_string() == wanted,
         "id" => number(shown.has_id, shown.id.into()),
         "linked" => number(shown.has_linked, shown.linked.into()),
@@ -114,6 +159,7 @@ fn holds(name: &str, wanted: &str, case: &Case, facts: &Facts) -> bool {
         "problem" => octets(wanted) == [shown.tag, shown.problem],
         "parameter" => part(shown.parameter),
         "scheme" => text.is_there == 1 && octets(wanted) == [text.scheme],
+        "string" if wanted == "none" => text.is_there == 0,
         "string" => text.is_there == 1 && part(text.string),
         "tail" => text.is_there == 1 && text.tail.start == text.string.end && part(text.tail),
         "cause" if wanted == "none" => cause.is_there == 0,
@@ -121,6 +167,13 @@ fn holds(name: &str, wanted: &str, case: &Case, facts: &Facts) -> bool {
         "shows" => shown.kind == kind(wanted),
         _ => false,
     }
+}
+
+/// The entry that the call concerns, afterwards.
+fn entry(case: &Case, facts: &Facts) -> Entry {
+    let at = case.entry + ENTRY * usize::from(facts.value);
+    let entry = facts.table.get(at..at + ENTRY).expect("a whole table");
+    entry.try_into().expect("seventeen octets")
 }
 
 /// The octets of a part of the case's message.

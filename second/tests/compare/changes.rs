@@ -44,6 +44,17 @@ const CORPUS: &[(&str, &str, u8)] = &[
     ("own10", "8B3A10A20E020101300902010A1204 20202020", 0),
     ("own10", "8B3A0CA20A020101300502010A1000", 0),
     ("own10", "8B3A0FA20D020101300802010AA003800101", 0),
+    // Among others that wait, of ours and of the peer's.
+    ("peers3", "0B3A10A10E02010902013C300604010F040141", 0),
+    ("peers4", "0B3A10A10E02010902013C300604010F040141", 3),
+    ("peers4", "0B3A08A106020107020126", 3),
+    ("owns2", "8B3A0EA10C0201098001020201120A0100", 0),
+    ("owns2", "8B3A0EA10C0201098001010201120A0100", 3),
+    ("owns3", "8B3A12A210020102300B02013B300604010F040141", 0),
+    ("owns4", "8B3A05A203020104", 0),
+    ("eight", "8B3A10A20E02010130090201111204 31323334", 0),
+    ("eight", "8B3A08A306020103020122", 0),
+    ("eight", "8B2A1C08A306020102020147", 5),
     // Errors of the operation's list and of another's, and Rejects.
     ("own59", "8B3A08A306020101020147", 0),
     ("own59", "8B3A08A306020101020111", 3),
@@ -160,6 +171,7 @@ fn corpus_from_every_table() {
     let names = [
         "fresh", "w1", "open", "peer61", "peer18", "own59", "own17", "own10", "own11", "own12",
         "own13", "own14", "ownopen", "both17", "other17", "full", "damaged", "short", "crowded",
+        "owns2", "owns3", "owns4", "peers2", "peers3", "peers4", "eight", "apart",
     ];
     for table in names.map(tables::named) {
         for (_, message, _) in CORPUS {

@@ -3,13 +3,13 @@
 use crate::chance::Chance;
 use crate::codes;
 use crate::parameters as p;
-use crate::tables::{self, STATE_OWN, STATE_PEER};
+use crate::tables::{self, owns_of, peers_of, Entry, Invoke, PLACES};
 
 /// Error codes at the edges of the list.
 const ERRORS: [u8; 12] = [1, 9, 13, 16, 21, 27, 34, 38, 43, 71, 72, 72];
 
 /// A Facility value: empty, a component, or another thing.
-pub fn facility(c: &mut Chance, entry: [u8; 5]) -> Vec<u8> {
+pub fn facility(c: &mut Chance, entry: &Entry) -> Vec<u8> {
     match c.below(40) {
         0 => Vec::new(),
         1 => {
@@ -29,13 +29,12 @@ pub fn facility(c: &mut Chance, entry: [u8; 5]) -> Vec<u8> {
 }
 
 /// One component near the entry; its places now and then disturbed.
-fn component(c: &mut Chance, entry: [u8; 5]) -> Vec<u8> {
-    let waits_own = entry[0] & STATE_OWN != 0;
-    let outer = match waits_own {
-        true => c.pick(&[
+fn component(c: &mut Chance, entry: &Entry) -> Vec<u8> {
+    let outer = match owns_of(entry).is_empty() {
+        false => c.pick(&[
             0xA1, 0xA1, 0xA1, 0xA2, 0xA2, 0xA2, 0xA2, 0xA2, 0xA3, 0xA3, 0xA4,
         ]),
-        false => c.pick(&[
+        true => c.pick(&[
             0xA1, 0xA1, 0xA1, 0xA1, 0xA1, 0xA1, 0xA1, 0xA1, 0xA2, 0xA3, 0xA4,
         ]),
     };
@@ -68,21 +67,39 @@ pub fn near(c: &mut Chance, id: u8) -> u8 {
     }
 }
 
-fn invoke(c: &mut Chance, entry: [u8; 5]) -> Vec<Vec<u8>> {
-    let [state, own_id, own_operation, peer_id, _] = entry;
-    let id = match state & STATE_PEER {
-        0 => c.id(),
-        _ => c.pick(&[peer_id, peer_id.wrapping_add(1)]),
-    };
+/// One of those that wait, at any place; zeros if there is none.
+pub fn one_of(c: &mut Chance, side: &[Invoke]) -> Invoke {
+    match side {
+        [] => [0; 2],
+        _ => c.pick(side),
+    }
+}
+
+/// The id of an Invoke: a new one, one of ours, or a duplicate, rare while there is
+/// room for another.
+fn invoke_id(c: &mut Chance, entry: &Entry) -> u8 {
+    let (own, peers) = (owns_of(entry), peers_of(entry));
+    let duplicates = if peers.len() == PLACES { 5 } else { 1 };
+    match c.below(10) {
+        n if n < duplicates => one_of(c, &peers)[0],
+        9 => one_of(c, &own)[0],
+        _ => tables::new_id(c, &peers),
+    }
+}
+
+fn invoke(c: &mut Chance, entry: &Entry) -> Vec<Vec<u8>> {
+    let id = invoke_id(c, entry);
     let operation = match c.below(10) {
         0 => c.octet(),
         1 => c.pick(&tables::OWN),
         2 => 38,
         _ => c.pick(&[18, 18, 60, 61]),
     };
-    let links = match own_operation {
-        17 => c.flip(),
-        _ => c.one_in(8),
+    let [own_id, own_operation] = one_of(c, &owns_of(entry));
+    let links = match (own_operation, operation) {
+        (17, 18) => c.flip(),
+        (17, _) => c.one_in(4),
+        _ => c.one_in(12),
     };
     let mut places = vec![number(c, 0x02, id)];
     if links {
@@ -94,16 +111,18 @@ fn invoke(c: &mut Chance, entry: [u8; 5]) -> Vec<Vec<u8>> {
     places
 }
 
-fn result(c: &mut Chance, entry: [u8; 5]) -> Vec<Vec<u8>> {
-    let [_, own_id, own_operation, ..] = entry;
+fn result(c: &mut Chance, entry: &Entry) -> Vec<Vec<u8>> {
+    let own = owns_of(entry);
+    let [own_id, own_operation] = one_of(c, &own);
     let id = near(c, own_id);
     let mut places = vec![number(c, 0x02, id)];
     if c.one_in(6) {
         return places;
     }
-    let operation = match c.one_in(12) {
-        true => c.pick(&tables::OWN),
-        false => own_operation,
+    let operation = match c.below(16) {
+        0 => c.pick(&tables::OWN),
+        1 => one_of(c, &own)[1],
+        _ => own_operation,
     };
     let mut answer = vec![number(c, 0x02, operation), p::of_result(c, operation)];
     if c.one_in(12) {
@@ -113,12 +132,12 @@ fn result(c: &mut Chance, entry: [u8; 5]) -> Vec<Vec<u8>> {
     places
 }
 
-fn error(c: &mut Chance, entry: [u8; 5]) -> Vec<Vec<u8>> {
-    let [_, own_id, own_operation, ..] = entry;
+fn error(c: &mut Chance, entry: &Entry) -> Vec<Vec<u8>> {
+    let [own_id, own_operation] = one_of(c, &owns_of(entry));
     let id = near(c, own_id);
-    let code = match c.below(6) {
-        0..=2 => codes::listed(c, own_operation, true),
-        3 => codes::listed(c, own_operation, false),
+    let code = match c.below(8) {
+        0..=4 => codes::listed(c, own_operation, true),
+        5 => codes::listed(c, own_operation, false),
         _ => code(c),
     };
     vec![number(c, 0x02, id), number(c, 0x02, code), p::of_error(c)]
@@ -131,8 +150,9 @@ pub fn code(c: &mut Chance) -> u8 {
     }
 }
 
-fn reject(c: &mut Chance, entry: [u8; 5]) -> Vec<Vec<u8>> {
-    let id = near(c, entry[1]);
+fn reject(c: &mut Chance, entry: &Entry) -> Vec<Vec<u8>> {
+    let [own_id, _] = one_of(c, &owns_of(entry));
+    let id = near(c, own_id);
     let first = match c.one_in(3) {
         true => p::element(c, 0x05, &[]),
         false => number(c, 0x02, id),

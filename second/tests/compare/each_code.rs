@@ -4,13 +4,18 @@ use crate::both::{compare, compare_message, Call, Named};
 use crate::carried::{FACILITY, REGISTER, RELEASE_COMPLETE};
 use crate::codes::{problem, LISTED};
 use crate::errors::sent;
-use crate::notation::octets;
-use crate::tables::{self, OWN, PEER};
+use crate::notation::{hex, octets};
+use crate::report::lines;
+use crate::tables::{self, Entry, Invoke, CLOSED, OWN, PEER, PLACES};
 use second::ffi::{Component, Received, Span};
 
-/// The id of each invoke that waits, and another.
+/// The id under which an error is meant to come, one that none of ours has, and those
+/// of the others of ours.
 const ID: u8 = 1;
 const OTHER: u8 = 2;
+const OTHERS: [u8; PLACES] = [11, 12, 13, 14];
+/// How many of ours wait, and the place of the one that is meant.
+const SHAPES: [(usize, usize); 5] = [(1, 0), (4, 0), (4, 1), (4, 2), (4, 3)];
 /// No parameter, and such as an error may have: "any one element".
 const PARAMETERS: [&str; 4] = ["none", "0500", "0A810101", "30053003800101"];
 /// "problems general 80, ..., error 83"
@@ -34,8 +39,8 @@ impl Sent<'_> {
         let facts = compare_message(self.table, &message, 12);
         let (code, reply, entry) = match (self.kind, problem) {
             // "always with verdict 5; on a fault ... nothing is shown"
-            (RELEASE_COMPLETE, _) => (5, Vec::new(), [0; 5]),
-            (_, Some(problem)) => (3, self.reject(problem), [0; 5]),
+            (RELEASE_COMPLETE, _) => (5, Vec::new(), CLOSED),
+            (_, Some(problem)) => (3, self.reject(problem), CLOSED),
             (_, None) => (0, Vec::new(), self.cleared()),
         };
         let received = Received {
@@ -48,25 +53,25 @@ impl Sent<'_> {
             ..Received::default()
         };
         let mut table = self.table.to_vec();
-        let at = tables::place(self.named.0, self.named.1);
-        table[at..at + 5].copy_from_slice(&entry);
+        tables::put(&mut table, self.named, entry);
         let as_wanted = (facts.reply(), &facts.table) == (&reply[..], &table);
         if !as_wanted || facts.received != received {
             println!("| {}", name(self.code));
-            println!("| {} to {:?}", self.code, self.entry());
+            println!("| {}", self.code);
+            lines("entry", &hex(&self.entry()));
             panic!("not what 02 says");
         }
     }
 
-    fn entry(&self) -> [u8; 5] {
+    fn entry(&self) -> Entry {
         tables::entry(self.table, self.named.0, self.named.1)
     }
 
-    /// "A result or error received clears the own invoke, and the transaction
-    /// stays open."
-    fn cleared(&self) -> [u8; 5] {
-        let [state, _, _, peer, operation] = self.entry();
-        [state & !tables::STATE_OWN, 0, 0, peer, operation]
+    /// "A result or error clears the place with its id; the others keep their order."
+    fn cleared(&self) -> Entry {
+        let mut own = tables::owns_of(&self.entry());
+        own.retain(|[id, _]| *id != self.id);
+        tables::open(&own, &tables::peers_of(&self.entry()))
     }
 
     /// "RELEASE COMPLETE, Facility with Reject", under the other flag.
@@ -99,7 +104,7 @@ fn name(code: u8) -> &'static str {
     named.map_or("not listed", |(name, ..)| name)
 }
 
-/// The operation that waits in each entry: each of the seven in one of ours and
+/// The operation that is meant in each entry: each of the seven in one of ours and
 /// in another of the network's, so that no two neighbours have the same.
 fn waiting((flag, value): Named) -> u8 {
     let at = usize::from(value) + if flag == 1 { 0 } else { 3 };
@@ -111,18 +116,31 @@ fn all_names() -> Vec<Named> {
     values(1).chain(values(0)).collect()
 }
 
-/// Every entry open, with its operation under the one id, and with this peer
-/// invoke.
-fn crowd(peer: Option<[u8; 2]>) -> Vec<u8> {
-    let entry = |named| tables::open(Some([ID, waiting(named)]), peer);
+/// The operation under the one id, and others of ours around it, none the same.
+fn owns(operation: u8, (count, meant): (usize, usize)) -> Vec<Invoke> {
+    let at = OWN.iter().position(|own| *own == operation);
+    let at = at.expect("one of the seven");
+    let invoke = |place| match place == meant {
+        true => [ID, operation],
+        false => [OTHERS[place], OWN[(at + place + 1) % OWN.len()]],
+    };
+    (0..count).map(invoke).collect()
+}
+
+/// Every entry open, with its operation under the one id, and with these peer
+/// invokes.
+fn crowd(shape: (usize, usize), peers: &[Invoke]) -> Vec<u8> {
+    let entry = |named| tables::open(&owns(waiting(named), shape), peers);
     all_names().into_iter().flat_map(entry).collect()
 }
 
-/// Each code to each operation, alone and beside a peer invoke of the same id or of
-/// the other.
+/// Each code to each operation, alone and among four of ours at each place, alone and
+/// beside peer invokes of the same id or of the other.
 fn each(kind: u8, id: u8, behind: &[u8], wanted: impl Fn(u8, u8) -> Option<[u8; 2]>) {
-    for peer in [None, Some([ID, 60]), Some([OTHER, 18])] {
-        let table = &crowd(peer);
+    let four = [[OTHER, 18], [5, 60], [ID, 61], [0, 60]];
+    let peers: [&[Invoke]; 3] = [&[], &[[ID, 60]], &four];
+    for (shape, peers) in SHAPES.into_iter().flat_map(|s| peers.map(|p| (s, p))) {
+        let table = &crowd(shape, peers);
         for named in all_names() {
             for code in 0..=255 {
                 let sent = Sent {
@@ -189,6 +207,7 @@ fn where_none_waits() {
         ("ownopen", RELEASE_COMPLETE, (1, 0)),
         ("w1", FACILITY, (0, 0)),
         ("w1", RELEASE_COMPLETE, (0, 0)),
+        ("peers4", FACILITY, (0, 0)),
         ("fresh", REGISTER, (0, 0)),
     ];
     for (table, kind, named) in places {
@@ -208,21 +227,30 @@ fn where_none_waits() {
     }
 }
 
-/// Errors that we write are bound by 01's table alone, whatever we wait for.
+/// Errors that we write are bound by 01's table alone, whatever we wait for, and to
+/// whichever of the peer's they go.
 #[test]
 fn that_we_write() {
     for peer in PEER {
         for own in [None].into_iter().chain(OWN.map(Some)) {
-            let entry = tables::open(own.map(|operation| [ID, operation]), Some([ID, peer]));
-            let table = [&entry[..], &[0; 65]].concat();
-            for code in 0..=255 {
-                let call = Call::Error((1, 0), ID as i8, code, Vec::new());
-                let wanted = match LISTED.iter().any(|(_, listed, _)| *listed == code) {
-                    true => 0,
-                    false => 20,
-                };
-                assert_eq!(compare(&table, &call, 12).code(), wanted);
+            for place in 0..PLACES {
+                let own: Vec<Invoke> = own.iter().map(|operation| [ID, *operation]).collect();
+                let mut peers = OTHERS.map(|id| [id, 60]);
+                peers[place] = [ID, peer];
+                let table = tables::image(&[(0, tables::open(&own, &peers).to_vec())]);
+                check_written(&table);
             }
         }
+    }
+}
+
+fn check_written(table: &[u8]) {
+    for code in 0..=255 {
+        let call = Call::Error((1, 0), ID as i8, code, Vec::new());
+        let wanted = match LISTED.iter().any(|(_, listed, _)| *listed == code) {
+            true => 0,
+            false => 20,
+        };
+        assert_eq!(compare(table, &call, 12).code(), wanted);
     }
 }

@@ -3,7 +3,7 @@
 use crate::both::{compare, Call, Facts};
 use crate::chance::Chance;
 use crate::parameters as p;
-use crate::tables;
+use crate::tables::{self, Entry, CLOSED, PLACES};
 use second::ffi::Span;
 
 const REGISTER: u8 = 0x3B;
@@ -176,8 +176,8 @@ fn sent(c: &mut Chance, kind: u8, outer: u8) -> (Sent, Vec<u8>) {
         _ => c.pick(&[60, 61]),
     };
     let mut table = tables::random(c);
-    let at = tables::place(flag, value);
-    table[at..at + 5].copy_from_slice(&entry(c, kind, outer, id));
+    let entry = entry(c, kind, outer, id);
+    tables::put(&mut table, (flag, value), entry);
 
     let length = p::string_length(c);
     let string = c.octets(length);
@@ -197,15 +197,24 @@ fn sent(c: &mut Chance, kind: u8, outer: u8) -> (Sent, Vec<u8>) {
     (sent, table)
 }
 
-/// The entry from which the component is taken.
-fn entry(c: &mut Chance, kind: u8, outer: u8, id: u8) -> [u8; 5] {
-    let own = c.flip().then(|| tables::own(c));
-    let peer = c.flip().then(|| tables::peer(c));
+/// The entry from which the component is taken: the result's id at any place of ours;
+/// "fewer than four peer invokes wait and none has its id".
+fn entry(c: &mut Chance, kind: u8, outer: u8, id: u8) -> Entry {
+    let (mut own, mut peers) = (tables::owns(c), tables::peers(c));
     match (kind, outer) {
-        (REGISTER, _) => [0; 5],
-        (_, RESULT) => tables::open(Some([id, 59]), peer),
-        _ => tables::open(own, None),
+        (REGISTER, _) => return CLOSED,
+        (_, RESULT) => {
+            own.retain(|[other, _]| *other != id);
+            own.truncate(PLACES - 1);
+            let place = c.below(own.len() + 1);
+            own.insert(place, [id, 59]);
+        }
+        _ => {
+            peers.retain(|[other, _]| *other != id);
+            peers.truncate(PLACES - 1);
+        }
     }
+    tables::open(&own, &peers)
 }
 
 /// Whole information elements, none of them a Facility.

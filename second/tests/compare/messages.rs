@@ -3,7 +3,7 @@
 use crate::call::Named;
 use crate::chance::Chance;
 use crate::components::facility;
-use crate::tables::{self, open_one};
+use crate::tables::{self, open_one, CLOSED};
 
 /// A message of any length up to 300: sound, damaged or noise.
 pub fn message(c: &mut Chance, image: &[u8]) -> Vec<u8> {
@@ -69,11 +69,11 @@ fn kind(c: &mut Chance, is_open: bool, flag: u8) -> u8 {
 fn structured(c: &mut Chance, image: &[u8]) -> Vec<u8> {
     let (flag, value) = transaction(c, image);
     let entry = match value {
-        7 => [0; 5],
+        7 => CLOSED,
         _ => tables::entry(image, flag, value),
     };
     let kind = kind(c, entry[0] != 0, flag);
-    let facility = facility(c, entry);
+    let facility = facility(c, &entry);
     let length = facility.len().min(255) as u8;
     let mut message = vec![head(flag, value), kind];
     match kind {

@@ -2,8 +2,10 @@
 
 use crate::call::Call;
 use crate::carried::Weighed;
+use crate::damage;
 use crate::errors;
 use crate::passwords;
+use crate::waiting;
 
 /// A name and a number of it.
 pub type Met = (&'static str, u8);
@@ -11,16 +13,25 @@ pub type Met = (&'static str, u8);
 /// What must occur, the numbers of each name.
 pub fn named() -> impl Iterator<Item = (&'static str, &'static [u8])> {
     let passwords = passwords::OFTEN.into_iter().chain(passwords::MET);
-    errors::MET.into_iter().chain(passwords)
+    let waiting = waiting::MET.into_iter().chain(damage::MET);
+    errors::MET.into_iter().chain(passwords).chain(waiting)
 }
 
 /// What the call meets, of the above, from this table and a buffer of this length.
 pub fn met(table: &[u8], call: &Call, room: usize) -> Vec<Met> {
-    let Call::Receive(message) = call else {
-        return passwords::written(table, call, room);
-    };
-    match Weighed::of(table, message, room) {
-        Some(weighed) => [errors::met(&weighed), passwords::received(&weighed)].concat(),
-        None => Vec::new(),
+    let mut met = waiting::closed(table, call, room);
+    match call {
+        Call::Receive(message) => {
+            if let Some(weighed) = Weighed::of(table, message, room) {
+                met.extend(errors::met(&weighed));
+                met.extend(passwords::received(&weighed));
+                met.extend(waiting::received(&weighed));
+            }
+        }
+        _ => {
+            met.extend(passwords::written(table, call, room));
+            met.extend(waiting::called(table, call, room));
+        }
     }
+    met
 }

@@ -68,7 +68,7 @@ pub fn written(table: &[u8], call: &Call, room: usize) -> Vec<Met> {
     let called = call.called(table, &vec![0; room]);
     let code = called.expect("a local call").code;
     match (call, code) {
-        (Call::Result(named, ..), 0 | 25) if is_asked_for(table, *named) => {
+        (Call::Result(named, id, _), 0 | 25) if is_asked_for(table, *named, *id) => {
             with_odd_one(("password written", code), "no digit written at", &octets)
         }
         (_, 0) if is_password(&octets) => Vec::new(),
@@ -85,10 +85,10 @@ fn is_of_17(component: &Component) -> bool {
     matches!(answer, Some(Answer { operation: 17, .. }))
 }
 
-/// Whether a getPassword waits in this entry.
-fn is_asked_for(table: &[u8], (flag, value): Named) -> bool {
-    let [.., operation] = tables::entry(table, flag, value);
-    operation == 18
+/// Whether a getPassword waits under this id.
+fn is_asked_for(table: &[u8], (flag, value): Named, id: i8) -> bool {
+    let entry = tables::entry(table, flag, value);
+    tables::peers_of(&entry).contains(&[id as u8, 18])
 }
 
 /// The contents, if it has the tag.

@@ -4,7 +4,7 @@ use crate::both::compare_message;
 use crate::extent::takes_first;
 use crate::tables;
 
-const TABLES: [&str; 5] = ["fresh", "w1", "own59", "both17", "crowded"];
+const TABLES: [&str; 5] = ["fresh", "w1", "own59", "eight", "crowded"];
 
 #[test]
 fn of_up_to_two_octets() {

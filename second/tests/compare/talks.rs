@@ -1,11 +1,14 @@
 //! Conversations of up to 50 steps, the table carried on.
 
-use crate::both::{compare, on_second, Call};
+use crate::both::{compare, on_second, Call, Facts};
 use crate::chance::Chance;
+use crate::damage;
+use crate::growing;
 use crate::messages;
 use crate::rare;
 use crate::tables;
 use crate::tally::Tally;
+use crate::waiting::grown;
 use crate::wishes;
 
 /// The number of steps, which SMR_STEPS may raise.
@@ -45,27 +48,66 @@ fn work(worker: u64, steps: usize) -> Tally {
     tally
 }
 
+/// A talk. In two of three the table grows from zeros by what is said alone: what is
+/// rare is then said from a copy.
 fn hold(c: &mut Chance, length: usize, tally: &mut Tally) {
-    let mut table = match c.one_in(3) {
-        true => tables::random(c),
-        false => tables::named("fresh"),
+    let grows = !c.one_in(3);
+    let mut table = match grows {
+        true => tables::named("fresh"),
+        false => tables::random(c),
     };
     for _ in 0..length {
-        let call = match c.below(5) {
-            _ if c.one_in(16) => rare::call(c, &mut table),
-            0..=2 => Call::Receive(messages::message(c, &table)),
-            _ => wishes::call(c, &table),
-        };
-        let room = room(c, &table, &call);
-        if c.one_in(60) {
-            let spoiled = tables::spoiled(c, &table);
-            tally.add(&spoiled, &call, &compare(&spoiled, &call, room));
-            continue;
+        match c.below(240) {
+            0..=5 => say_to_damaged(c, &table, tally),
+            6..=8 => {
+                let changed = damage::changed(c, &table);
+                let call = call(c, &table);
+                say(c, &changed, &call, tally);
+            }
+            9..=36 => {
+                let mut image = table.clone();
+                let call = rare::call(c, &mut image);
+                let facts = say(c, &image, &call, tally);
+                if !grows {
+                    table = facts.table;
+                }
+            }
+            37..=130 if grows => {
+                let call = growing::call(c, &table);
+                table = say(c, &table, &call, tally).table;
+                tally.count_met(&grown(&table));
+            }
+            _ => {
+                let call = call(c, &table);
+                table = say(c, &table, &call, tally).table;
+            }
         }
-        let facts = compare(&table, &call, room);
-        tally.add(&table, &call, &facts);
-        table = facts.table;
     }
+}
+
+/// A message or a call that suits the table more or less.
+fn call(c: &mut Chance, table: &[u8]) -> Call {
+    match c.below(5) {
+        0..=2 => Call::Receive(messages::message(c, table)),
+        _ => wishes::call(c, table),
+    }
+}
+
+/// A call on both, with a buffer by chance.
+fn say(c: &mut Chance, table: &[u8], call: &Call, tally: &mut Tally) -> Facts {
+    let room = room(c, table, call);
+    let facts = compare(table, call, room);
+    tally.add(table, call, &facts);
+    facts
+}
+
+/// "28 damaged image" comes first, whatever is asked.
+fn say_to_damaged(c: &mut Chance, table: &[u8], tally: &mut Tally) {
+    let (image, kind, _) = damage::damaged(c, table);
+    let call = call(c, table);
+    let facts = say(c, &image, &call, tally);
+    assert_eq!(facts.code(), 28, "{}", damage::KINDS[kind].0);
+    tally.count_met(&[("damaged", kind as u8 + 1)]);
 }
 
 /// A buffer's length, 0 to 300, often at the edge of what the call needs.

@@ -1,7 +1,7 @@
 //! What has occurred over a run, and what must.
 
 use crate::both::{Call, Facts};
-use crate::met::{met, named};
+use crate::met::{met, named, Met};
 use crate::passwords;
 use std::collections::BTreeMap;
 
@@ -37,9 +37,7 @@ impl Tally {
             (code, Call::Receive(_)) => self.add_verdict(code, facts),
             (code, _) => self.count("called", code),
         }
-        for (name, number) in met(table, call, facts.buffer.len()) {
-            self.count(name, number);
-        }
+        self.count_met(&met(table, call, facts.buffer.len()));
         if facts.received.text.is_there != 0 {
             self.count("text", facts.received.shown.operation);
         }
@@ -66,6 +64,12 @@ impl Tally {
 
     pub fn count(&mut self, name: &'static str, number: u8) {
         *self.counts.entry((name, number)).or_default() += 1;
+    }
+
+    pub fn count_met(&mut self, met: &[Met]) {
+        for (name, number) in met {
+            self.count(name, *number);
+        }
     }
 
     pub fn merge(&mut self, other: Tally) {

@@ -9,10 +9,11 @@ use Rattle.codes.specs.Errors.{listed}
 use Rattle.parameters.specs.Suits.{noneOrOne}
 use Rattle.components.specs.Written.{codedLength}
 use Rattle.table.specs.Table.{valid, entryAt}
-use Rattle.table.specs.Seen.{invokeSeen, slotSeen}
+use Rattle.sides.specs.Seen.{sideSeen}
+use Rattle.table.specs.Seen.{slotSeen}
 use Rattle.table.specs.declared.Named.{Named}
-use Rattle.judging.specs.StepSix.{among}
-use Rattle.judging.proofs.Paths.{among-is}
+use Rattle.sides.specs.Side.{among}
+use Rattle.sides.proofs.Asked.{among-is}
 use Rattle.calling.specs.Calls.{transaction}
 use Rattle.calling.specs.Seen.{lengthRefusal, NamedWithin}
 use Rattle.calling.proofs.Paths.{error-damaged, error-unlisted, error-closed, error-unasked, error-unsuited, error-long, error-refused, error-goes}
@@ -23,7 +24,7 @@ use Rattle.calling.proofs.decide_error.Lts as lts
 use Rattle.calling.proofs.find_open.Reads as find-open-reads
 use Rattle.calling.proofs.length_refusal.Reads as length-refusal-reads
 use Rattle.codes.proofs.errors.is_listed.Reads as is-listed-reads
-use Rattle.judging.proofs.is_among.Reads as is-among-reads
+use Rattle.sides.proofs.is_among.Reads as is-among-reads
 use Rattle.parameters.proofs.suits.is_none_or_one.Reads as is-none-or-one-reads
 use Rattle.sending.proofs.facility_length.Reads as facility-length-reads
 use Rattle.table.proofs.is_valid.Reads as is-valid-reads
@@ -79,8 +80,8 @@ returns-4 c =
     let k = c .before .before .before .before .k .given .0 .0 in
     let t : sound k ≡ transaction (a .table .now) (a .flag) (a .value) = rw (c .before .before .before .before .k .given .1) at (c .before .before .before .before .before .before .find-open .ensures .0) in
     let slot = c .before .before .read-entry .result in
-    let seen : slotSeen slot ≡ entryAt (a .table .now) k = c .before .before .read-entry .ensures in
-    let m : among (a .id) (invokeSeen (slot .peer)) ≡ false = sym (among-is (invokeSeen (slot .peer)) (c .before .before .before .before .before .before .before .before .before .before .before .before .before .fits .id) (c .before .is-among .ensures)) ∙ not-true _ (c .if3 .taken) in
+    let seen : slotSeen slot ≡ entryAt (a .table .now) k = c .before .before .read-entry .ensures .1 in
+    let m : among (a .id) (sideSeen (slot .peer)) ≡ false = sym (among-is (sideSeen (slot .peer)) (c .before .before .before .before .before .before .before .before .before .before .before .before .before .fits .id) (c .before .is-among .ensures)) ∙ not-true _ (c .if3 .taken) in
     (error-unasked (a .table .now) (a .room) (a .flag) (a .value) (a .id) (a .code) (a .p .now) d b k t slot seen m, (tt, tt))
 
 is-none-or-one-requires : tie.Need-is-none-or-one-requires
@@ -94,8 +95,8 @@ returns-5 c =
     let k = c .before .before .before .before .before .before .k .given .0 .0 in
     let t : sound k ≡ transaction (a .table .now) (a .flag) (a .value) = rw (c .before .before .before .before .before .before .k .given .1) at (c .before .before .before .before .before .before .before .before .find-open .ensures .0) in
     let slot = c .before .before .before .before .read-entry .result in
-    let seen : slotSeen slot ≡ entryAt (a .table .now) k = c .before .before .before .before .read-entry .ensures in
-    let m : among (a .id) (invokeSeen (slot .peer)) ≡ true = sym (among-is (invokeSeen (slot .peer)) (c .before .before .before .before .before .before .before .before .before .before .before .before .before .before .before .fits .id) (c .before .before .before .is-among .ensures)) ∙ not-false _ (c .before .before .if3 .left) in
+    let seen : slotSeen slot ≡ entryAt (a .table .now) k = c .before .before .before .before .read-entry .ensures .1 in
+    let m : among (a .id) (sideSeen (slot .peer)) ≡ true = sym (among-is (sideSeen (slot .peer)) (c .before .before .before .before .before .before .before .before .before .before .before .before .before .before .before .fits .id) (c .before .before .before .is-among .ensures)) ∙ not-false _ (c .before .before .if3 .left) in
     let s : noneOrOne (a .p .now) ≡ false = sym (c .before .is-none-or-one .ensures) ∙ not-true _ (c .if4 .taken) in
     (error-unsuited (a .table .now) (a .room) (a .flag) (a .value) (a .id) (a .code) (a .p .now) d b k t slot seen m s, (tt, tt))
 
@@ -107,8 +108,8 @@ returns-6 c =
     let k = c .before .before .before .before .before .before .before .k .given .0 .0 in
     let t : sound k ≡ transaction (a .table .now) (a .flag) (a .value) = rw (c .before .before .before .before .before .before .before .k .given .1) at (c .before .before .before .before .before .before .before .before .before .find-open .ensures .0) in
     let slot = c .before .before .before .before .before .read-entry .result in
-    let seen : slotSeen slot ≡ entryAt (a .table .now) k = c .before .before .before .before .before .read-entry .ensures in
-    let m : among (a .id) (invokeSeen (slot .peer)) ≡ true = sym (among-is (invokeSeen (slot .peer)) (c .before .before .before .before .before .before .before .before .before .before .before .before .before .before .before .before .fits .id) (c .before .before .before .before .is-among .ensures)) ∙ not-false _ (c .before .before .before .if3 .left) in
+    let seen : slotSeen slot ≡ entryAt (a .table .now) k = c .before .before .before .before .before .read-entry .ensures .1 in
+    let m : among (a .id) (sideSeen (slot .peer)) ≡ true = sym (among-is (sideSeen (slot .peer)) (c .before .before .before .before .before .before .before .before .before .before .before .before .before .before .before .before .fits .id) (c .before .before .before .before .is-among .ensures)) ∙ not-false _ (c .before .before .before .if3 .left) in
     let s : noneOrOne (a .p .now) ≡ true = sym (c .before .before .is-none-or-one .ensures) ∙ not-false _ (c .before .if4 .left) in
     (error-long (a .table .now) (a .room) (a .flag) (a .value) (a .id) (a .code) (a .p .now) d b k t slot seen m s (c .if5 .taken), (tt, tt))
 
@@ -126,8 +127,8 @@ returns-7 c =
     let k = c .before .before .before .before .before .before .before .before .before .before .k .given .0 .0 in
     let t : sound k ≡ transaction (a .table .now) (a .flag) (a .value) = rw (c .before .before .before .before .before .before .before .before .before .before .k .given .1) at (c .before .before .before .before .before .before .before .before .before .before .before .before .find-open .ensures .0) in
     let slot = c .before .before .before .before .before .before .before .before .read-entry .result in
-    let seen : slotSeen slot ≡ entryAt (a .table .now) k = c .before .before .before .before .before .before .before .before .read-entry .ensures in
-    let m : among (a .id) (invokeSeen (slot .peer)) ≡ true = sym (among-is (invokeSeen (slot .peer)) (c .before .before .before .before .before .before .before .before .before .before .before .before .before .before .before .before .before .before .before .fits .id) (c .before .before .before .before .before .before .before .is-among .ensures)) ∙ not-false _ (c .before .before .before .before .before .before .if3 .left) in
+    let seen : slotSeen slot ≡ entryAt (a .table .now) k = c .before .before .before .before .before .before .before .before .read-entry .ensures .1 in
+    let m : among (a .id) (sideSeen (slot .peer)) ≡ true = sym (among-is (sideSeen (slot .peer)) (c .before .before .before .before .before .before .before .before .before .before .before .before .before .before .before .before .before .before .before .fits .id) (c .before .before .before .before .before .before .before .is-among .ensures)) ∙ not-false _ (c .before .before .before .before .before .before .if3 .left) in
     let s : noneOrOne (a .p .now) ≡ true = sym (c .before .before .before .before .before .is-none-or-one .ensures) ∙ not-false _ (c .before .before .before .before .if4 .left) in
     let r = c .before .length-refusal .result in
     let e : r ≡ lengthRefusal (3 + codedLength (length (a .p .now))) (a .room) = rw (c .before .before .facility-length .ensures) at (c .before .length-refusal .ensures) in
@@ -142,12 +143,12 @@ returns-8 c =
     let t : sound k ≡ transaction (a .table .now) (a .flag) (a .value) = rw (c .before .before .before .before .before .before .before .before .before .before .k .given .1) at (c .before .before .before .before .before .before .before .before .before .before .before .before .find-open .ensures .0) in
     let w : NamedWithin (a .flag) (a .value) (Named.At k) = rw (c .before .before .before .before .before .before .before .before .before .before .k .given .1) at (c .before .before .before .before .before .before .before .before .before .before .before .before .find-open .ensures .1) in
     let slot = c .before .before .before .before .before .before .before .before .read-entry .result in
-    let seen : slotSeen slot ≡ entryAt (a .table .now) k = c .before .before .before .before .before .before .before .before .read-entry .ensures in
-    let m : among (a .id) (invokeSeen (slot .peer)) ≡ true = sym (among-is (invokeSeen (slot .peer)) (c .before .before .before .before .before .before .before .before .before .before .before .before .before .before .before .before .before .before .before .fits .id) (c .before .before .before .before .before .before .before .is-among .ensures)) ∙ not-false _ (c .before .before .before .before .before .before .if3 .left) in
+    let seen : slotSeen slot ≡ entryAt (a .table .now) k = c .before .before .before .before .before .before .before .before .read-entry .ensures .1 in
+    let m : among (a .id) (sideSeen (slot .peer)) ≡ true = sym (among-is (sideSeen (slot .peer)) (c .before .before .before .before .before .before .before .before .before .before .before .before .before .before .before .before .before .before .before .fits .id) (c .before .before .before .before .before .before .before .is-among .ensures)) ∙ not-false _ (c .before .before .before .before .before .before .if3 .left) in
     let s : noneOrOne (a .p .now) ≡ true = sym (c .before .before .before .before .before .is-none-or-one .ensures) ∙ not-false _ (c .before .before .before .before .if4 .left) in
     let r = c .before .length-refusal .result in
     let e : r ≡ lengthRefusal (3 + codedLength (length (a .p .now))) (a .room) = rw (c .before .before .facility-length .ensures) at (c .before .length-refusal .ensures) in
-    let g = error-goes (a .table .now) (a .room) (a .flag) (a .value) (a .id) (a .code) (a .p .now) d b k t slot seen m s r e (c .if6 .left) w in
+    let g = error-goes (a .table .now) (a .room) (a .flag) (a .value) (a .id) (a .code) (a .p .now) d b k t slot seen m s r e (c .if6 .left) (c .before .before .before .before .before .before .before .before .before .before .before .before .before .before .before .before .before .before .before .fits .id) w in
     (g .0, (g .1, refl))
 
 pub decide-error-spec : {M : Type 1} → statement M

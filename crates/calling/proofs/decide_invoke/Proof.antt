@@ -1,7 +1,7 @@
 use borrow.Author.Needs.{needs}
 use Prim.Native.Nat.{_+_}
 use mathlib.Core.Path.{_≡_, refl, sym, _∙_}
-use mathlib.Core.Bool.{true, false}
+use mathlib.Core.Bool.{true, false, _||_}
 use borrow.Author.Tests.{not-true, not-false}
 use lib.ListN.{length}
 use Rattle.octets.specs.Reader.{fault, sound}
@@ -9,9 +9,11 @@ use Rattle.codes.specs.Operations.{begins}
 use Rattle.parameters.specs.Suits.{suits, InvokeWritten}
 use Rattle.components.specs.Written.{codedLength}
 use Rattle.table.specs.Table.{valid, entryAt}
-use Rattle.table.specs.Seen.{invokeSeen, slotSeen}
+use Rattle.sides.specs.Seen.{sideSeen}
+use Rattle.table.specs.Seen.{slotSeen}
 use Rattle.table.specs.declared.Named.{Named}
-use Rattle.judging.specs.StepSix.{full}
+use Rattle.sides.specs.Side.{among, full}
+use Rattle.sides.proofs.Asked.{among-is}
 use Rattle.calling.specs.Calls.{transaction}
 use Rattle.calling.specs.Seen.{lengthRefusal, NamedWithin}
 use Rattle.calling.proofs.Paths.{invoke-damaged, invoke-unlisted, invoke-closed, invoke-full, invoke-unsuited, invoke-long, invoke-refused, invoke-goes}
@@ -22,7 +24,8 @@ use Rattle.calling.proofs.decide_invoke.Lts as lts
 use Rattle.calling.proofs.find_open.Reads as find-open-reads
 use Rattle.calling.proofs.length_refusal.Reads as length-refusal-reads
 use Rattle.codes.proofs.operations.is_begun.Reads as is-begun-reads
-use Rattle.judging.proofs.is_full.Reads as is-full-reads
+use Rattle.sides.proofs.is_among.Reads as is-among-reads
+use Rattle.sides.proofs.is_full.Reads as is-full-reads
 use Rattle.parameters.proofs.suits.suits_invoke_written.Reads as suits-invoke-written-reads
 use Rattle.sending.proofs.facility_length.Reads as facility-length-reads
 use Rattle.table.proofs.is_valid.Reads as is-valid-reads
@@ -70,16 +73,20 @@ read-entry-requires c κs = search needs
 is-full-requires : tie.Need-is-full-requires
 is-full-requires c κs = search needs
 
+is-among-requires : tie.Need-is-among-requires
+is-among-requires c κs = search needs
+
 returns-4 : tie.Need-returns-4
 returns-4 c =
-    let a = c .before .before .before .before .before .before .before .before .before .before .before .before .before .args in
-    let d : valid (a .table .now) ≡ true = sym (c .before .before .before .before .before .before .before .before .before .before .is-valid .ensures) ∙ not-false _ (c .before .before .before .before .before .before .before .before .before .if1 .left) in
-    let b : begins (a .operation) ≡ true = sym (c .before .before .before .before .before .before .before .before .is-begun .ensures) ∙ not-false _ (c .before .before .before .before .before .before .before .if2 .left) in
-    let k = c .before .before .before .before .k .given .0 .0 in
-    let t : sound k ≡ transaction (a .table .now) (a .flag) (a .value) = rw (c .before .before .before .before .k .given .1) at (c .before .before .before .before .before .before .find-open .ensures .0) in
-    let slot = c .before .before .read-entry .result in
-    let seen : slotSeen slot ≡ entryAt (a .table .now) k = c .before .before .read-entry .ensures in
-    let f : full (invokeSeen (slot .own)) ≡ true = sym (c .before .is-full .ensures) ∙ c .if3 .taken in
+    let a = c .before .before .before .before .before .before .before .before .before .before .before .before .before .before .args in
+    let d : valid (a .table .now) ≡ true = sym (c .before .before .before .before .before .before .before .before .before .before .before .is-valid .ensures) ∙ not-false _ (c .before .before .before .before .before .before .before .before .before .before .if1 .left) in
+    let b : begins (a .operation) ≡ true = sym (c .before .before .before .before .before .before .before .before .before .is-begun .ensures) ∙ not-false _ (c .before .before .before .before .before .before .before .before .if2 .left) in
+    let k = c .before .before .before .before .before .k .given .0 .0 in
+    let t : sound k ≡ transaction (a .table .now) (a .flag) (a .value) = rw (c .before .before .before .before .before .k .given .1) at (c .before .before .before .before .before .before .before .find-open .ensures .0) in
+    let slot = c .before .before .before .read-entry .result in
+    let seen : slotSeen slot ≡ entryAt (a .table .now) k = c .before .before .before .read-entry .ensures .1 in
+    let ws = sideSeen (slot .own) in
+    let f : (full ws || among (a .id) ws) ≡ true = rw (c .before .before .is-full .ensures, among-is ws (c .before .before .before .before .before .before .before .before .before .before .before .before .before .before .fits .id) (c .before .is-among .ensures)) at (c .if3 .taken) in
     (invoke-full (a .table .now) (a .room) (a .flag) (a .value) (a .operation) (a .id) (a .p .now) d b k t slot seen f, (tt, tt))
 
 suits-invoke-written-requires : tie.Need-suits-invoke-written-requires
@@ -87,27 +94,29 @@ suits-invoke-written-requires c κs = search needs
 
 returns-5 : tie.Need-returns-5
 returns-5 c =
-    let a = c .before .before .before .before .before .before .before .before .before .before .before .before .before .before .before .args in
-    let d : valid (a .table .now) ≡ true = sym (c .before .before .before .before .before .before .before .before .before .before .before .before .is-valid .ensures) ∙ not-false _ (c .before .before .before .before .before .before .before .before .before .before .before .if1 .left) in
-    let b : begins (a .operation) ≡ true = sym (c .before .before .before .before .before .before .before .before .before .before .is-begun .ensures) ∙ not-false _ (c .before .before .before .before .before .before .before .before .before .if2 .left) in
-    let k = c .before .before .before .before .before .before .k .given .0 .0 in
-    let t : sound k ≡ transaction (a .table .now) (a .flag) (a .value) = rw (c .before .before .before .before .before .before .k .given .1) at (c .before .before .before .before .before .before .before .before .find-open .ensures .0) in
-    let slot = c .before .before .before .before .read-entry .result in
-    let seen : slotSeen slot ≡ entryAt (a .table .now) k = c .before .before .before .before .read-entry .ensures in
-    let f : full (invokeSeen (slot .own)) ≡ false = sym (c .before .before .before .is-full .ensures) ∙ c .before .before .if3 .left in
-    let s : suits InvokeWritten (a .operation) (a .p .now) ≡ false = sym (c .before .suits-invoke-written .ensures) ∙ not-true _ (c .if4 .taken) in
-    (invoke-unsuited (a .table .now) (a .room) (a .flag) (a .value) (a .operation) (a .id) (a .p .now) d b k t slot seen f s, (tt, tt))
-
-returns-6 : tie.Need-returns-6
-returns-6 c =
     let a = c .before .before .before .before .before .before .before .before .before .before .before .before .before .before .before .before .args in
     let d : valid (a .table .now) ≡ true = sym (c .before .before .before .before .before .before .before .before .before .before .before .before .before .is-valid .ensures) ∙ not-false _ (c .before .before .before .before .before .before .before .before .before .before .before .before .if1 .left) in
     let b : begins (a .operation) ≡ true = sym (c .before .before .before .before .before .before .before .before .before .before .before .is-begun .ensures) ∙ not-false _ (c .before .before .before .before .before .before .before .before .before .before .if2 .left) in
     let k = c .before .before .before .before .before .before .before .k .given .0 .0 in
     let t : sound k ≡ transaction (a .table .now) (a .flag) (a .value) = rw (c .before .before .before .before .before .before .before .k .given .1) at (c .before .before .before .before .before .before .before .before .before .find-open .ensures .0) in
     let slot = c .before .before .before .before .before .read-entry .result in
-    let seen : slotSeen slot ≡ entryAt (a .table .now) k = c .before .before .before .before .before .read-entry .ensures in
-    let f : full (invokeSeen (slot .own)) ≡ false = sym (c .before .before .before .before .is-full .ensures) ∙ c .before .before .before .if3 .left in
+    let seen : slotSeen slot ≡ entryAt (a .table .now) k = c .before .before .before .before .before .read-entry .ensures .1 in
+    let ws = sideSeen (slot .own) in
+    let f : (full ws || among (a .id) ws) ≡ false = rw (c .before .before .before .before .is-full .ensures, among-is ws (c .before .before .before .before .before .before .before .before .before .before .before .before .before .before .before .before .fits .id) (c .before .before .before .is-among .ensures)) at (c .before .before .if3 .left) in
+    let s : suits InvokeWritten (a .operation) (a .p .now) ≡ false = sym (c .before .suits-invoke-written .ensures) ∙ not-true _ (c .if4 .taken) in
+    (invoke-unsuited (a .table .now) (a .room) (a .flag) (a .value) (a .operation) (a .id) (a .p .now) d b k t slot seen f s, (tt, tt))
+
+returns-6 : tie.Need-returns-6
+returns-6 c =
+    let a = c .before .before .before .before .before .before .before .before .before .before .before .before .before .before .before .before .before .args in
+    let d : valid (a .table .now) ≡ true = sym (c .before .before .before .before .before .before .before .before .before .before .before .before .before .before .is-valid .ensures) ∙ not-false _ (c .before .before .before .before .before .before .before .before .before .before .before .before .before .if1 .left) in
+    let b : begins (a .operation) ≡ true = sym (c .before .before .before .before .before .before .before .before .before .before .before .before .is-begun .ensures) ∙ not-false _ (c .before .before .before .before .before .before .before .before .before .before .before .if2 .left) in
+    let k = c .before .before .before .before .before .before .before .before .k .given .0 .0 in
+    let t : sound k ≡ transaction (a .table .now) (a .flag) (a .value) = rw (c .before .before .before .before .before .before .before .before .k .given .1) at (c .before .before .before .before .before .before .before .before .before .before .find-open .ensures .0) in
+    let slot = c .before .before .before .before .before .before .read-entry .result in
+    let seen : slotSeen slot ≡ entryAt (a .table .now) k = c .before .before .before .before .before .before .read-entry .ensures .1 in
+    let ws = sideSeen (slot .own) in
+    let f : (full ws || among (a .id) ws) ≡ false = rw (c .before .before .before .before .before .is-full .ensures, among-is ws (c .before .before .before .before .before .before .before .before .before .before .before .before .before .before .before .before .before .fits .id) (c .before .before .before .before .is-among .ensures)) at (c .before .before .before .if3 .left) in
     let s : suits InvokeWritten (a .operation) (a .p .now) ≡ true = sym (c .before .before .suits-invoke-written .ensures) ∙ not-false _ (c .before .if4 .left) in
     (invoke-long (a .table .now) (a .room) (a .flag) (a .value) (a .operation) (a .id) (a .p .now) d b k t slot seen f s (c .if5 .taken), (tt, tt))
 
@@ -119,14 +128,15 @@ length-refusal-requires c κs = search needs
 
 returns-7 : tie.Need-returns-7
 returns-7 c =
-    let a = c .before .before .before .before .before .before .before .before .before .before .before .before .before .before .before .before .before .before .before .args in
-    let d : valid (a .table .now) ≡ true = sym (c .before .before .before .before .before .before .before .before .before .before .before .before .before .before .before .before .is-valid .ensures) ∙ not-false _ (c .before .before .before .before .before .before .before .before .before .before .before .before .before .before .before .if1 .left) in
-    let b : begins (a .operation) ≡ true = sym (c .before .before .before .before .before .before .before .before .before .before .before .before .before .before .is-begun .ensures) ∙ not-false _ (c .before .before .before .before .before .before .before .before .before .before .before .before .before .if2 .left) in
-    let k = c .before .before .before .before .before .before .before .before .before .before .k .given .0 .0 in
-    let t : sound k ≡ transaction (a .table .now) (a .flag) (a .value) = rw (c .before .before .before .before .before .before .before .before .before .before .k .given .1) at (c .before .before .before .before .before .before .before .before .before .before .before .before .find-open .ensures .0) in
-    let slot = c .before .before .before .before .before .before .before .before .read-entry .result in
-    let seen : slotSeen slot ≡ entryAt (a .table .now) k = c .before .before .before .before .before .before .before .before .read-entry .ensures in
-    let f : full (invokeSeen (slot .own)) ≡ false = sym (c .before .before .before .before .before .before .before .is-full .ensures) ∙ c .before .before .before .before .before .before .if3 .left in
+    let a = c .before .before .before .before .before .before .before .before .before .before .before .before .before .before .before .before .before .before .before .before .args in
+    let d : valid (a .table .now) ≡ true = sym (c .before .before .before .before .before .before .before .before .before .before .before .before .before .before .before .before .before .is-valid .ensures) ∙ not-false _ (c .before .before .before .before .before .before .before .before .before .before .before .before .before .before .before .before .if1 .left) in
+    let b : begins (a .operation) ≡ true = sym (c .before .before .before .before .before .before .before .before .before .before .before .before .before .before .before .is-begun .ensures) ∙ not-false _ (c .before .before .before .before .before .before .before .before .before .before .before .before .before .before .if2 .left) in
+    let k = c .before .before .before .before .before .before .before .before .before .before .before .k .given .0 .0 in
+    let t : sound k ≡ transaction (a .table .now) (a .flag) (a .value) = rw (c .before .before .before .before .before .before .before .before .before .before .before .k .given .1) at (c .before .before .before .before .before .before .before .before .before .before .before .before .before .find-open .ensures .0) in
+    let slot = c .before .before .before .before .before .before .before .before .before .read-entry .result in
+    let seen : slotSeen slot ≡ entryAt (a .table .now) k = c .before .before .before .before .before .before .before .before .before .read-entry .ensures .1 in
+    let ws = sideSeen (slot .own) in
+    let f : (full ws || among (a .id) ws) ≡ false = rw (c .before .before .before .before .before .before .before .before .is-full .ensures, among-is ws (c .before .before .before .before .before .before .before .before .before .before .before .before .before .before .before .before .before .before .before .before .fits .id) (c .before .before .before .before .before .before .before .is-among .ensures)) at (c .before .before .before .before .before .before .if3 .left) in
     let s : suits InvokeWritten (a .operation) (a .p .now) ≡ true = sym (c .before .before .before .before .before .suits-invoke-written .ensures) ∙ not-false _ (c .before .before .before .before .if4 .left) in
     let r = c .before .length-refusal .result in
     let e : r ≡ lengthRefusal (3 + codedLength (length (a .p .now))) (a .room) = rw (c .before .before .facility-length .ensures) at (c .before .length-refusal .ensures) in
@@ -134,19 +144,20 @@ returns-7 c =
 
 returns-8 : tie.Need-returns-8
 returns-8 c =
-    let a = c .before .before .before .before .before .before .before .before .before .before .before .before .before .before .before .before .before .before .before .args in
-    let d : valid (a .table .now) ≡ true = sym (c .before .before .before .before .before .before .before .before .before .before .before .before .before .before .before .before .is-valid .ensures) ∙ not-false _ (c .before .before .before .before .before .before .before .before .before .before .before .before .before .before .before .if1 .left) in
-    let b : begins (a .operation) ≡ true = sym (c .before .before .before .before .before .before .before .before .before .before .before .before .before .before .is-begun .ensures) ∙ not-false _ (c .before .before .before .before .before .before .before .before .before .before .before .before .before .if2 .left) in
-    let k = c .before .before .before .before .before .before .before .before .before .before .k .given .0 .0 in
-    let t : sound k ≡ transaction (a .table .now) (a .flag) (a .value) = rw (c .before .before .before .before .before .before .before .before .before .before .k .given .1) at (c .before .before .before .before .before .before .before .before .before .before .before .before .find-open .ensures .0) in
-    let w : NamedWithin (a .flag) (a .value) (Named.At k) = rw (c .before .before .before .before .before .before .before .before .before .before .k .given .1) at (c .before .before .before .before .before .before .before .before .before .before .before .before .find-open .ensures .1) in
-    let slot = c .before .before .before .before .before .before .before .before .read-entry .result in
-    let seen : slotSeen slot ≡ entryAt (a .table .now) k = c .before .before .before .before .before .before .before .before .read-entry .ensures in
-    let f : full (invokeSeen (slot .own)) ≡ false = sym (c .before .before .before .before .before .before .before .is-full .ensures) ∙ c .before .before .before .before .before .before .if3 .left in
+    let a = c .before .before .before .before .before .before .before .before .before .before .before .before .before .before .before .before .before .before .before .before .args in
+    let d : valid (a .table .now) ≡ true = sym (c .before .before .before .before .before .before .before .before .before .before .before .before .before .before .before .before .before .is-valid .ensures) ∙ not-false _ (c .before .before .before .before .before .before .before .before .before .before .before .before .before .before .before .before .if1 .left) in
+    let b : begins (a .operation) ≡ true = sym (c .before .before .before .before .before .before .before .before .before .before .before .before .before .before .before .is-begun .ensures) ∙ not-false _ (c .before .before .before .before .before .before .before .before .before .before .before .before .before .before .if2 .left) in
+    let k = c .before .before .before .before .before .before .before .before .before .before .before .k .given .0 .0 in
+    let t : sound k ≡ transaction (a .table .now) (a .flag) (a .value) = rw (c .before .before .before .before .before .before .before .before .before .before .before .k .given .1) at (c .before .before .before .before .before .before .before .before .before .before .before .before .before .find-open .ensures .0) in
+    let w : NamedWithin (a .flag) (a .value) (Named.At k) = rw (c .before .before .before .before .before .before .before .before .before .before .before .k .given .1) at (c .before .before .before .before .before .before .before .before .before .before .before .before .before .find-open .ensures .1) in
+    let slot = c .before .before .before .before .before .before .before .before .before .read-entry .result in
+    let seen : slotSeen slot ≡ entryAt (a .table .now) k = c .before .before .before .before .before .before .before .before .before .read-entry .ensures .1 in
+    let ws = sideSeen (slot .own) in
+    let f : (full ws || among (a .id) ws) ≡ false = rw (c .before .before .before .before .before .before .before .before .is-full .ensures, among-is ws (c .before .before .before .before .before .before .before .before .before .before .before .before .before .before .before .before .before .before .before .before .fits .id) (c .before .before .before .before .before .before .before .is-among .ensures)) at (c .before .before .before .before .before .before .if3 .left) in
     let s : suits InvokeWritten (a .operation) (a .p .now) ≡ true = sym (c .before .before .before .before .before .suits-invoke-written .ensures) ∙ not-false _ (c .before .before .before .before .if4 .left) in
     let r = c .before .length-refusal .result in
     let e : r ≡ lengthRefusal (3 + codedLength (length (a .p .now))) (a .room) = rw (c .before .before .facility-length .ensures) at (c .before .length-refusal .ensures) in
-    let g = invoke-goes (a .table .now) (a .room) (a .flag) (a .value) (a .operation) (a .id) (a .p .now) d b k t slot seen f s r e (c .if6 .left) (c .before .before .before .before .before .before .before .before .before .before .before .before .before .before .before .before .before .before .before .fits .id) w in
+    let g = invoke-goes (a .table .now) (a .room) (a .flag) (a .value) (a .operation) (a .id) (a .p .now) d b k t slot seen f s r e (c .if6 .left) (c .before .before .before .before .before .before .before .before .before .before .before .before .before .before .before .before .before .before .before .before .fits .id) w in
     (g .0, (g .1, refl))
 
 pub decide-invoke-spec : {M : Type 1} → statement M
@@ -163,6 +174,7 @@ decide-invoke-spec =
     returns-3
     read-entry-requires
     is-full-requires
+    is-among-requires
     returns-4
     suits-invoke-written-requires
     returns-5

@@ -36,7 +36,7 @@ returns-2 c =
     let k = c .before .before .before .before .k .given .0 .0 in
     let e : named (a .flag) (a .value) ≡ some k = sym (rw (c .before .before .before .before .k .given .1) at (c .before .before .before .before .before .before .entry-named .ensures)) in
     let slot = c .before .before .read-entry .result in
-    let seen : slotSeen slot ≡ entryAt (a .table .now) k = c .before .before .read-entry .ensures in
+    let seen : slotSeen slot ≡ entryAt (a .table .now) k = c .before .before .read-entry .ensures .1 in
     (not-open (a .table .now) (a .flag) (a .value) k slot e seen (not-true _ (c .if1 .taken)), tt)
 
 returns-3 : tie.Need-returns-3
@@ -45,7 +45,7 @@ returns-3 c =
     let k = c .before .before .before .before .k .given .0 .0 in
     let e : named (a .flag) (a .value) ≡ some k = sym (rw (c .before .before .before .before .k .given .1) at (c .before .before .before .before .before .before .entry-named .ensures)) in
     let slot = c .before .before .read-entry .result in
-    let seen : slotSeen slot ≡ entryAt (a .table .now) k = c .before .before .read-entry .ensures in
+    let seen : slotSeen slot ≡ entryAt (a .table .now) k = c .before .before .read-entry .ensures .1 in
     is-open (a .table .now) (a .flag) (a .value) k slot e seen (not-false _ (c .if1 .left))
 
 pub find-open-spec : {M : Type 1} → statement M

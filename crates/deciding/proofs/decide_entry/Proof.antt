@@ -60,7 +60,7 @@ returns-2 c =
     let w : value (firstOctet m) ≡ 7 → ⊥ = λ z. c .before .before .before .before .before .before .if1 .left (c .before .before .before .before .before .before .before .value-of .ensures ∙ z) in
     let q = rw (rest-part 2 m) at (c .decide-by-type .ensures .0) in
     let h = rw (rest-part 2 m) at (c .decide-by-type .ensures .1) in
-    ((q ∙ picked (a .table .now) m w _ _ _ (c .before .before .before .before .before .picked-entry .ensures) (c .before .before .before .before .read-entry .ensures) (c .before .before .before .flag-of .ensures), h), λ z. value-least (a .table .now) m w)
+    ((q ∙ picked (a .table .now) m w _ _ _ (c .before .before .before .before .before .picked-entry .ensures) (c .before .before .before .before .read-entry .ensures .1) (c .before .before .before .flag-of .ensures), h), λ z. value-least (a .table .now) m w)
 
 pub decide-entry-spec : {M : Type 1} → statement M
 decide-entry-spec =

@@ -1,32 +1,30 @@
 use borrow.Author.Needs.{needs}
-use mathlib.Core.Path.{_≡_, sym, _∙_}
+use mathlib.Core.Path.{_≡_}
 use mathlib.Core.Bool.{true, false, _&&_}
 use Rattle.components.specs.Seen.{operationSeen}
 use Rattle.parameters.specs.Suits.{suits, ResultReceived}
 use borrow.Author.Tests.{not-true, not-false}
-use Rattle.table.specs.Seen.{invokeSeen}
+use Rattle.codes.proofs.IdLaws.{held-is}
+use Rattle.sides.specs.Seen.{sideSeen}
 use Rattle.judging.specs.StepSix.{isOurs, judgeResult}
 use Rattle.octets.proofs.TestLaws.{both}
-use Rattle.judging.proofs.Paths.{among-is, operation-is, cleared, told-is}
+use Rattle.sides.proofs.Asked.{operation-is, is-none, is-there}
+use Rattle.judging.proofs.Paths.{told-is}
 use Rattle.judging.proofs.judge_result.Statement.{statement}
 use Rattle.judging.proofs.judge_result.Tie as tie
 use Rattle.judging.proofs.judge_result.Reads as reads
 use Rattle.judging.proofs.judge_result.Lts as lts
-use Rattle.judging.proofs.is_among.Reads as is-among-reads
 use Rattle.judging.proofs.is_ours.Reads as is-ours-reads
 use Rattle.judging.proofs.told_text.Reads as told-text-reads
-use Rattle.judging.proofs.waiting_operation.Reads as waiting-operation-reads
+use Rattle.sides.proofs.operation_of.Reads as operation-of-reads
 use Rattle.parameters.proofs.suits.suits_result_received.Reads as suits-result-received-reads
 
-is-among-requires : tie.Need-is-among-requires
-is-among-requires c κs = search needs
+operation-of-requires : tie.Need-operation-of-requires
+operation-of-requires c κs = search needs
 
 returns : tie.Need-returns
 unfolding judgeResult
-returns c = (rw (sym (among-is (invokeSeen (c .before .before .before .args .slot .own)) (c .before .before .before .fits .id) (c .before .is-among .ensures)) ∙ not-true _ (c .if1 .taken)), tt)
-
-waiting-operation-requires : tie.Need-waiting-operation-requires
-waiting-operation-requires c κs = search needs
+returns c = (rw (is-none _ _ (sideSeen (c .before .before .before .args .slot .own)) (c .before .before .before .fits .id) (c .before .operation-of .ensures .1) (c .if1 .taken)), tt)
 
 suits-result-received-requires : tie.Need-suits-result-received-requires
 suits-result-received-requires c κs = search needs
@@ -37,12 +35,12 @@ is-ours-requires c κs = search needs
 returns-2 : tie.Need-returns-2
 unfolding judgeResult
 returns-2 c =
-    let a = c .before .before .before .before .before .before .before .before .args in
-    let i = c .before .before .before .before .before .before .before .before .fits .id in
-    let o = c .before .before .before .before .waiting-operation in
-    let ws = invokeSeen (a .slot .own) in
+    let a = c .before .before .before .before .before .before .before .args in
+    let i = c .before .before .before .before .before .before .before .fits .id in
+    let o = c .before .before .before .before .before .operation-of in
+    let ws = sideSeen (a .slot .own) in
     let b : isOurs (operationSeen (a .operation)) (o .result) && suits ResultReceived (o .result) (a .p .now) ≡ false = rw (c .before .before .is-ours .ensures, c .before .before .before .suits-result-received .ensures .0) at (not-true (c .before .before .is-ours .result && c .before .before .before .suits-result-received .result .suited) (c .if2 .taken)) in
-    (rw (sym (among-is ws i (c .before .before .before .before .before .before .is-among .ensures)) ∙ not-false _ (c .before .before .before .before .before .if1 .left), ← operation-is ws i (o .ensures), b), tt)
+    (rw (is-there _ _ ws i (o .ensures .1) (c .before .before .before .before .if1 .left), ← operation-is ws i (o .ensures .0), b), tt)
 
 told-text-requires : tie.Need-told-text-requires
 told-text-requires c κs = search needs
@@ -50,21 +48,19 @@ told-text-requires c κs = search needs
 returns-3 : tie.Need-returns-3
 unfolding judgeResult
 returns-3 c =
-    let a = c .before .before .before .before .before .before .before .before .before .args in
-    let i = c .before .before .before .before .before .before .before .before .before .fits .id in
-    let o = c .before .before .before .before .before .waiting-operation in
-    let w = a .slot .own in
-    let m = sym (among-is (invokeSeen w) i (c .before .before .before .before .before .before .before .is-among .ensures)) ∙ not-false _ (c .before .before .before .before .before .before .if1 .left) in
+    let a = c .before .before .before .before .before .before .before .before .args in
+    let i = c .before .before .before .before .before .before .before .before .fits .id in
+    let o = c .before .before .before .before .before .before .operation-of in
+    let ws = sideSeen (a .slot .own) in
     let b : isOurs (operationSeen (a .operation)) (o .result) && suits ResultReceived (o .result) (a .p .now) ≡ true = rw (c .before .before .before .is-ours .ensures, c .before .before .before .before .suits-result-received .ensures .0) at (not-false (c .before .before .before .is-ours .result && c .before .before .before .before .suits-result-received .result .suited) (c .before .if2 .left)) in
-    (rw (m, ← operation-is (invokeSeen w) i (o .ensures), b, cleared (a .id) w m), rw (c .told-text .ensures) (told-is (a .id) (operationSeen (a .operation)) (o .result) (a .p .now) (c .before .before .before .before .suits-result-received .result .text) (both _ _ b .0) (c .before .before .before .before .suits-result-received .ensures .1)))
+    (rw (is-there _ _ ws i (o .ensures .1) (c .before .before .before .before .before .if1 .left), ← operation-is ws i (o .ensures .0), b, held-is i), rw (c .told-text .ensures) (told-is (a .id) (operationSeen (a .operation)) (o .result) (a .p .now) (c .before .before .before .before .suits-result-received .result .text) (both _ _ b .0) (c .before .before .before .before .suits-result-received .ensures .1)))
 
 pub judge-result-spec : {M : Type 1} → statement M
 judge-result-spec =
     tie.close
     (tie.spec
-    is-among-requires
+    operation-of-requires
     returns
-    waiting-operation-requires
     suits-result-received-requires
     is-ours-requires
     returns-2

@@ -1,16 +1,15 @@
 use borrow.Author.Needs.{needs}
+use mathlib.Core.Path.{_≡_, refl, sym, ap, _∙_}
 use native.Mathlib.Omega.{arith}
-use mathlib.Core.Path.{_≡_, refl, _∙_, ap}
-use Prim.Native.Nat.{ℕ, _≤_, _-_}
-use lib.ListN.{getD}
-use Rattle.table.specs.Table.{lowestFrom, lowestClosed}
-use Rattle.table.proofs.Steps.{past-open, at-closed}
+use Prim.Native.Nat.{_≤_, _-_}
+use borrow.Author.Tests.{not-true, not-false}
+use Rattle.table.specs.Table.{Entry, lowestFrom, lowestClosed}
+use Rattle.table.proofs.Steps.{at-closed, past-open}
 use Rattle.table.proofs.lowest_closed.Statement.{statement}
 use Rattle.table.proofs.lowest_closed.Tie as tie
 use Rattle.table.proofs.lowest_closed.Reads as reads
 use Rattle.table.proofs.lowest_closed.Lts as lts
-use Rattle.table.proofs.octet_at.Reads as octet-at-reads
-use Rattle.table.proofs.start_of.Reads as start-of-reads
+use Rattle.table.proofs.read_entry.Reads as read-entry-reads
 
 abbrev Inv-loop : tie.InvT-loop
 Inv-loop table v₀ v = (v ≤ 7) × (lowestFrom table v (7 - v) ≡ lowestClosed table)
@@ -22,17 +21,14 @@ loop-holds : tie.Need-loop-holds Inv-loop μ-loop
 unfolding lowestClosed
 loop-holds c = (omega arith, refl)
 
-start-of-requires : tie.Need-start-of-requires Inv-loop μ-loop
-start-of-requires c κs = search needs
-
-octet-at-requires : tie.Need-octet-at-requires Inv-loop μ-loop
-octet-at-requires c κs = search needs
+read-entry-requires : tie.Need-read-entry-requires Inv-loop μ-loop
+read-entry-requires c κs = search needs
 
 returns : tie.Need-returns Inv-loop μ-loop
 returns c =
     let t = c .before .before .before .before .before .before .args .table .now in
-    let e = c .before .octet-at .ensures ∙ ap (λ (i : ℕ). getD t i 0) (c .before .before .start-of .ensures) in
-    at-closed t (c .before .before .before .before .loop .v) (c .before .octet-at .result) e (c .before .before .before .loop-test .taken) (c .if1 .taken) ∙ c .before .before .before .before .loop .inv .1
+    let o = ap (λ (e : Entry). e .isOpen) (c .before .before .read-entry .ensures .1) in
+    at-closed t (c .before .before .before .before .loop .v) _ o (c .before .before .before .loop-test .taken) (not-true _ (c .if1 .taken)) ∙ c .before .before .before .before .loop .inv .1
 
 add-v : tie.Need-add-v Inv-loop μ-loop
 add-v c = search needs
@@ -43,8 +39,8 @@ loop-less c = search needs
 loop-again : tie.Need-loop-again Inv-loop μ-loop
 loop-again c =
     let t = c .before .before .before .before .before .before .args .table .now in
-    let e = c .before .octet-at .ensures ∙ ap (λ (i : ℕ). getD t i 0) (c .before .before .start-of .ensures) in
-    (omega arith, past-open t (c .before .before .before .before .loop .v) (c .before .octet-at .result) e (c .before .before .before .loop-test .taken) (c .if1 .left) ∙ c .before .before .before .before .loop .inv .1)
+    let o = ap (λ (e : Entry). e .isOpen) (c .before .before .read-entry .ensures .1) in
+    (omega arith, past-open t (c .before .before .before .before .loop .v) _ o (c .before .before .before .loop-test .taken) (not-false _ (c .if1 .left)) ∙ c .before .before .before .before .loop .inv .1)
 
 returns-2 : tie.Need-returns-2 Inv-loop μ-loop
 unfolding lowestFrom
@@ -59,8 +55,7 @@ lowest-closed-spec =
     Inv-loop
     μ-loop
     loop-holds
-    start-of-requires
-    octet-at-requires
+    read-entry-requires
     returns
     add-v
     loop-less

@@ -11,7 +11,7 @@ use Rattle.codes.proofs.IdLaws.{held-is}
 use Rattle.components.specs.Component as component
 use Rattle.components.specs.Written.{componentOctets}
 use Rattle.messages.specs.Layout as layout
-use Rattle.table.specs.Seen.{slotSeen}
+use Rattle.table.specs.Seen.{changeSeen}
 use Rattle.calling.specs.Calls.{Sending}
 use Rattle.calling.specs.Calls as calls
 use Rattle.telephone.specs.Calls.{begin}
@@ -23,7 +23,7 @@ use Rattle.telephone.proofs.calls.smr_begin.Lts as lts
 use Rattle.calling.proofs.decide_begin.Reads as decide-begin-reads
 use Rattle.messages.proofs.layout.sent_first.Reads as sent-first-reads
 use Rattle.sending.proofs.put_register.Reads as put-register-reads
-use Rattle.table.proofs.write_entry.Reads as write-entry-reads
+use Rattle.table.proofs.change_entry.Reads as change-entry-reads
 
 decide-begin-requires : tie.Need-decide-begin-requires
 decide-begin-requires c κs = search needs
@@ -56,8 +56,8 @@ put-register-requires c κs =
     let w = rw (c .before .before .before .entry .given .1) at (c .before .before .before .before .before .decide-begin .ensures .1 .0) in
     register-room _ _ _ _ _ (w .1 .1 .1 .0) (w .1 .1 .1 .1)
 
-write-entry-requires : tie.Need-write-entry-requires
-write-entry-requires c κs = let w = rw (c .before .before .before .before .before .before .before .entry .given .1) at (c .before .before .before .before .before .before .before .before .before .decide-begin .ensures .1 .0) in w .0
+change-entry-requires : tie.Need-change-entry-requires
+change-entry-requires c κs = let w = rw (c .before .before .before .before .before .before .before .entry .given .1) at (c .before .before .before .before .before .before .before .before .before .decide-begin .ensures .1 .0) in w .0
 
 same-length-2 : tie.Need-same-length-2
 same-length-2 c = search needs
@@ -70,11 +70,11 @@ unfolding begin
 returns-2 c =
     let g = c .before .before .before .before .before .before .before .before .before .before .entry .given in
     let m : List ℕ = layout.register (layout.sentFirst 1 (g .0 .0)) (componentOctets (component.invoke (c .before .before .before .before .before .before .before .before .before .before .before .before .before .before .before .before .before .args .id) none (c .before .before .before .before .before .before .before .before .before .before .before .before .before .before .before .before .before .args .operation) (c .before .before .before .before .before .before .before .before .before .before .before .before .before .before .before .before .before .args .parameter .now))) in
-    let s : Sending = record { entry = g .0 .0; becomes = slotSeen (g .0 .1 .0); message = m } in
+    let s : Sending = record { entry = g .0 .0; change = changeSeen (g .0 .1 .0); message = m } in
     let e : sound s ≡ calls.sendBegin (c .before .before .before .before .before .before .before .before .before .before .before .before .before .before .before .before .before .args .table .now) (length (c .before .before .before .before .before .before .before .before .before .before .before .before .before .before .before .before .before .args .buffer .now)) (c .before .before .before .before .before .before .before .before .before .before .before .before .before .before .before .before .before .args .operation) (c .before .before .before .before .before .before .before .before .before .before .before .before .before .before .before .before .before .args .id) (c .before .before .before .before .before .before .before .before .before .before .before .before .before .before .before .before .before .args .parameter .now) = (rw (held-is (c .before .before .before .before .before .before .before .before .before .before .before .before .before .before .before .before .before .fits .id)) at (rw (g .1) at (c .before .before .before .before .before .before .before .before .before .before .before .before .decide-begin .ensures .0))) in
     let f : c .before .before .before .before .before .before .put-register .last .0 ≡ splice (c .before .before .before .before .before .before .before .before .before .before .before .before .before .before .before .before .before .args .buffer .now) 0 m = rw (held-is (c .before .before .before .before .before .before .before .before .before .before .before .before .before .before .before .before .before .fits .id), c .before .before .before .before .before .before .before .before .sent-first .ensures) at (c .before .before .before .before .before .before .put-register .ensures .0) in
     let l : c .before .before .before .before .before .before .put-register .result ≡ length m = rw (held-is (c .before .before .before .before .before .before .before .before .before .before .before .before .before .before .before .before .before .fits .id), c .before .before .before .before .before .before .before .before .sent-first .ensures) at (c .before .before .before .before .before .before .put-register .ensures .1) in
-    sent-as (c .before .before .before .before .before .before .before .before .before .before .before .before .before .before .before .before .before .args .table .now) (c .before .before .before .before .before .before .before .before .before .before .before .before .before .before .before .before .before .args .buffer .now) (λ s. s .entry) (calls.sendBegin (c .before .before .before .before .before .before .before .before .before .before .before .before .before .before .before .before .before .args .table .now) (length (c .before .before .before .before .before .before .before .before .before .before .before .before .before .before .before .before .before .args .buffer .now)) (c .before .before .before .before .before .before .before .before .before .before .before .before .before .before .before .before .before .args .operation) (c .before .before .before .before .before .before .before .before .before .before .before .before .before .before .before .before .before .args .id) (c .before .before .before .before .before .before .before .before .before .before .before .before .before .before .before .before .before .args .parameter .now)) s (g .0 .0) _ _ _ e refl l f (c .before .before .write-entry .ensures)
+    sent-as (c .before .before .before .before .before .before .before .before .before .before .before .before .before .before .before .before .before .args .table .now) (c .before .before .before .before .before .before .before .before .before .before .before .before .before .before .before .before .before .args .buffer .now) (λ s. s .entry) (calls.sendBegin (c .before .before .before .before .before .before .before .before .before .before .before .before .before .before .before .before .before .args .table .now) (length (c .before .before .before .before .before .before .before .before .before .before .before .before .before .before .before .before .before .args .buffer .now)) (c .before .before .before .before .before .before .before .before .before .before .before .before .before .before .before .before .before .args .operation) (c .before .before .before .before .before .before .before .before .before .before .before .before .before .before .before .before .before .args .id) (c .before .before .before .before .before .before .before .before .before .before .before .before .before .before .before .before .before .args .parameter .now)) s (g .0 .0) _ _ _ e refl l f (c .before .before .change-entry .ensures)
 
 pub smr-begin-spec : {M : Type 1} → statement M
 smr-begin-spec =
@@ -87,7 +87,7 @@ smr-begin-spec =
     enum-known-entry
     sent-first-requires
     put-register-requires
-    write-entry-requires
+    change-entry-requires
     same-length-2
     same-length-3
     returns-2)

@@ -10,7 +10,7 @@ use Rattle.codes.proofs.IdLaws.{held-is}
 use Rattle.components.specs.Component as component
 use Rattle.components.specs.Written.{componentOctets}
 use Rattle.messages.specs.Layout as layout
-use Rattle.table.specs.Seen.{slotSeen}
+use Rattle.table.specs.Seen.{changeSeen}
 use Rattle.calling.specs.Calls.{Sending}
 use Rattle.calling.specs.Calls as calls
 use Rattle.telephone.specs.Calls.{noValue, error}
@@ -22,7 +22,7 @@ use Rattle.telephone.proofs.calls.smr_error.Lts as lts
 use Rattle.calling.proofs.decide_error.Reads as decide-error-reads
 use Rattle.messages.proofs.layout.sent_first.Reads as sent-first-reads
 use Rattle.sending.proofs.put_error.Reads as put-error-reads
-use Rattle.table.proofs.write_entry.Reads as write-entry-reads
+use Rattle.table.proofs.change_entry.Reads as change-entry-reads
 
 decide-error-requires : tie.Need-decide-error-requires
 decide-error-requires c κs = search needs
@@ -51,8 +51,8 @@ put-error-requires c κs =
     let w = rw (c .before .before .before .entry .given .1) at (c .before .before .before .before .before .decide-error .ensures .1 .0) in
     error-room _ _ _ _ _ (w .1 .1 .1 .0) (w .1 .1 .1 .1)
 
-write-entry-requires : tie.Need-write-entry-requires
-write-entry-requires c κs = let w = rw (c .before .before .before .before .before .before .before .entry .given .1) at (c .before .before .before .before .before .before .before .before .before .decide-error .ensures .1 .0) in w .0
+change-entry-requires : tie.Need-change-entry-requires
+change-entry-requires c κs = let w = rw (c .before .before .before .before .before .before .before .entry .given .1) at (c .before .before .before .before .before .before .before .before .before .decide-error .ensures .1 .0) in w .0
 
 same-length-2 : tie.Need-same-length-2
 same-length-2 c = search needs
@@ -65,11 +65,11 @@ unfolding error
 returns-2 c =
     let g = c .before .before .before .before .before .before .before .before .before .before .entry .given in
     let m : List ℕ = layout.facilityMessage (layout.sentFirst (c .before .before .before .before .before .before .before .before .before .before .before .before .before .before .before .before .before .args .flag) (c .before .before .before .before .before .before .before .before .before .before .before .before .before .before .before .before .before .args .value)) (componentOctets (component.error (c .before .before .before .before .before .before .before .before .before .before .before .before .before .before .before .before .before .args .id) (c .before .before .before .before .before .before .before .before .before .before .before .before .before .before .before .before .before .args .code) (c .before .before .before .before .before .before .before .before .before .before .before .before .before .before .before .before .before .args .parameter .now))) in
-    let s : Sending = record { entry = g .0 .0; becomes = slotSeen (g .0 .1 .0); message = m } in
+    let s : Sending = record { entry = g .0 .0; change = changeSeen (g .0 .1 .0); message = m } in
     let e : sound s ≡ calls.sendError (c .before .before .before .before .before .before .before .before .before .before .before .before .before .before .before .before .before .args .table .now) (length (c .before .before .before .before .before .before .before .before .before .before .before .before .before .before .before .before .before .args .buffer .now)) (c .before .before .before .before .before .before .before .before .before .before .before .before .before .before .before .before .before .args .flag) (c .before .before .before .before .before .before .before .before .before .before .before .before .before .before .before .before .before .args .value) (c .before .before .before .before .before .before .before .before .before .before .before .before .before .before .before .before .before .args .id) (c .before .before .before .before .before .before .before .before .before .before .before .before .before .before .before .before .before .args .code) (c .before .before .before .before .before .before .before .before .before .before .before .before .before .before .before .before .before .args .parameter .now) = (rw (held-is (c .before .before .before .before .before .before .before .before .before .before .before .before .before .before .before .before .before .fits .id)) at (rw (g .1) at (c .before .before .before .before .before .before .before .before .before .before .before .before .decide-error .ensures .0))) in
     let f : c .before .before .before .before .before .before .put-error .last .0 ≡ splice (c .before .before .before .before .before .before .before .before .before .before .before .before .before .before .before .before .before .args .buffer .now) 0 m = rw (held-is (c .before .before .before .before .before .before .before .before .before .before .before .before .before .before .before .before .before .fits .id), c .before .before .before .before .before .before .before .before .sent-first .ensures) at (c .before .before .before .before .before .before .put-error .ensures .0) in
     let l : c .before .before .before .before .before .before .put-error .result ≡ length m = rw (held-is (c .before .before .before .before .before .before .before .before .before .before .before .before .before .before .before .before .before .fits .id), c .before .before .before .before .before .before .before .before .sent-first .ensures) at (c .before .before .before .before .before .before .put-error .ensures .1) in
-    sent-as (c .before .before .before .before .before .before .before .before .before .before .before .before .before .before .before .before .before .args .table .now) (c .before .before .before .before .before .before .before .before .before .before .before .before .before .before .before .before .before .args .buffer .now) noValue (calls.sendError (c .before .before .before .before .before .before .before .before .before .before .before .before .before .before .before .before .before .args .table .now) (length (c .before .before .before .before .before .before .before .before .before .before .before .before .before .before .before .before .before .args .buffer .now)) (c .before .before .before .before .before .before .before .before .before .before .before .before .before .before .before .before .before .args .flag) (c .before .before .before .before .before .before .before .before .before .before .before .before .before .before .before .before .before .args .value) (c .before .before .before .before .before .before .before .before .before .before .before .before .before .before .before .before .before .args .id) (c .before .before .before .before .before .before .before .before .before .before .before .before .before .before .before .before .before .args .code) (c .before .before .before .before .before .before .before .before .before .before .before .before .before .before .before .before .before .args .parameter .now)) s 0 _ _ _ e refl l f (c .before .before .write-entry .ensures)
+    sent-as (c .before .before .before .before .before .before .before .before .before .before .before .before .before .before .before .before .before .args .table .now) (c .before .before .before .before .before .before .before .before .before .before .before .before .before .before .before .before .before .args .buffer .now) noValue (calls.sendError (c .before .before .before .before .before .before .before .before .before .before .before .before .before .before .before .before .before .args .table .now) (length (c .before .before .before .before .before .before .before .before .before .before .before .before .before .before .before .before .before .args .buffer .now)) (c .before .before .before .before .before .before .before .before .before .before .before .before .before .before .before .before .before .args .flag) (c .before .before .before .before .before .before .before .before .before .before .before .before .before .before .before .before .before .args .value) (c .before .before .before .before .before .before .before .before .before .before .before .before .before .before .before .before .before .args .id) (c .before .before .before .before .before .before .before .before .before .before .before .before .before .before .before .before .before .args .code) (c .before .before .before .before .before .before .before .before .before .before .before .before .before .before .before .before .before .args .parameter .now)) s 0 _ _ _ e refl l f (c .before .before .change-entry .ensures)
 
 pub smr-error-spec : {M : Type 1} → statement M
 smr-error-spec =
@@ -82,7 +82,7 @@ smr-error-spec =
     enum-known-entry
     sent-first-requires
     put-error-requires
-    write-entry-requires
+    change-entry-requires
     same-length-2
     same-length-3
     returns-2)

@@ -7,7 +7,7 @@ use lib.ListN.{length}
 use Rattle.octets.specs.Reader.{fault, sound}
 use Rattle.octets.specs.Splice.{splice}
 use Rattle.messages.specs.Layout as layout
-use Rattle.table.specs.Seen.{slotSeen}
+use Rattle.table.specs.Seen.{changeSeen}
 use Rattle.calling.specs.Calls.{Sending}
 use Rattle.calling.specs.Calls as calls
 use Rattle.telephone.specs.Calls.{noValue, release}
@@ -19,7 +19,7 @@ use Rattle.telephone.proofs.calls.smr_release.Lts as lts
 use Rattle.calling.proofs.decide_release.Reads as decide-release-reads
 use Rattle.messages.proofs.layout.sent_first.Reads as sent-first-reads
 use Rattle.sending.proofs.put_release.Reads as put-release-reads
-use Rattle.table.proofs.write_entry.Reads as write-entry-reads
+use Rattle.table.proofs.change_entry.Reads as change-entry-reads
 
 decide-release-requires : tie.Need-decide-release-requires
 decide-release-requires c κs = search needs
@@ -46,8 +46,8 @@ sent-first-requires c κs = let w = rw (c .before .entry .given .1) at (c .befor
 put-release-requires : tie.Need-put-release-requires
 put-release-requires c κs = let w = rw (c .before .before .before .entry .given .1) at (c .before .before .before .before .before .decide-release .ensures .1 .0) in w .1 .1 .1 .1
 
-write-entry-requires : tie.Need-write-entry-requires
-write-entry-requires c κs = let w = rw (c .before .before .before .before .before .before .before .entry .given .1) at (c .before .before .before .before .before .before .before .before .before .decide-release .ensures .1 .0) in w .0
+change-entry-requires : tie.Need-change-entry-requires
+change-entry-requires c κs = let w = rw (c .before .before .before .before .before .before .before .entry .given .1) at (c .before .before .before .before .before .before .before .before .before .decide-release .ensures .1 .0) in w .0
 
 same-length-2 : tie.Need-same-length-2
 same-length-2 c = search needs
@@ -60,11 +60,11 @@ unfolding release
 returns-2 c =
     let g = c .before .before .before .before .before .before .before .before .before .before .entry .given in
     let m : List ℕ = layout.releaseEmpty (layout.sentFirst (c .before .before .before .before .before .before .before .before .before .before .before .before .before .before .before .before .args .flag) (c .before .before .before .before .before .before .before .before .before .before .before .before .before .before .before .before .args .value)) in
-    let s : Sending = record { entry = g .0 .0; becomes = slotSeen (g .0 .1 .0); message = m } in
+    let s : Sending = record { entry = g .0 .0; change = changeSeen (g .0 .1 .0); message = m } in
     let e : sound s ≡ calls.sendRelease (c .before .before .before .before .before .before .before .before .before .before .before .before .before .before .before .before .args .table .now) (length (c .before .before .before .before .before .before .before .before .before .before .before .before .before .before .before .before .args .buffer .now)) (c .before .before .before .before .before .before .before .before .before .before .before .before .before .before .before .before .args .flag) (c .before .before .before .before .before .before .before .before .before .before .before .before .before .before .before .before .args .value) = ((rw (g .1) at (c .before .before .before .before .before .before .before .before .before .before .before .before .decide-release .ensures .0))) in
     let f : c .before .before .before .before .before .before .put-release .last .0 ≡ splice (c .before .before .before .before .before .before .before .before .before .before .before .before .before .before .before .before .args .buffer .now) 0 m = c .before .before .before .before .before .before .put-release .ensures .0 ∙ ap (λ (first : ℕ). splice (c .before .before .before .before .before .before .before .before .before .before .before .before .before .before .before .before .args .buffer .now) 0 (layout.releaseEmpty first)) (c .before .before .before .before .before .before .before .before .sent-first .ensures) in
     let l : c .before .before .before .before .before .before .put-release .result ≡ length m = c .before .before .before .before .before .before .put-release .ensures .1 in
-    sent-as (c .before .before .before .before .before .before .before .before .before .before .before .before .before .before .before .before .args .table .now) (c .before .before .before .before .before .before .before .before .before .before .before .before .before .before .before .before .args .buffer .now) noValue (calls.sendRelease (c .before .before .before .before .before .before .before .before .before .before .before .before .before .before .before .before .args .table .now) (length (c .before .before .before .before .before .before .before .before .before .before .before .before .before .before .before .before .args .buffer .now)) (c .before .before .before .before .before .before .before .before .before .before .before .before .before .before .before .before .args .flag) (c .before .before .before .before .before .before .before .before .before .before .before .before .before .before .before .before .args .value)) s 0 _ _ _ e refl l f (c .before .before .write-entry .ensures)
+    sent-as (c .before .before .before .before .before .before .before .before .before .before .before .before .before .before .before .before .args .table .now) (c .before .before .before .before .before .before .before .before .before .before .before .before .before .before .before .before .args .buffer .now) noValue (calls.sendRelease (c .before .before .before .before .before .before .before .before .before .before .before .before .before .before .before .before .args .table .now) (length (c .before .before .before .before .before .before .before .before .before .before .before .before .before .before .before .before .args .buffer .now)) (c .before .before .before .before .before .before .before .before .before .before .before .before .before .before .before .before .args .flag) (c .before .before .before .before .before .before .before .before .before .before .before .before .before .before .before .before .args .value)) s 0 _ _ _ e refl l f (c .before .before .change-entry .ensures)
 
 pub smr-release-spec : {M : Type 1} → statement M
 smr-release-spec =
@@ -77,7 +77,7 @@ smr-release-spec =
     enum-known-entry
     sent-first-requires
     put-release-requires
-    write-entry-requires
+    change-entry-requires
     same-length-2
     same-length-3
     returns-2)

@@ -9,7 +9,7 @@ use Rattle.octets.specs.Splice.{splice}
 use Rattle.codes.proofs.IdLaws.{held-is}
 use Rattle.components.specs.Written.{componentOctets, resultFor}
 use Rattle.messages.specs.Layout as layout
-use Rattle.table.specs.Seen.{slotSeen}
+use Rattle.table.specs.Seen.{changeSeen}
 use Rattle.calling.specs.Calls.{Sending}
 use Rattle.calling.specs.Calls as calls
 use Rattle.telephone.specs.Calls.{noValue, result}
@@ -21,7 +21,7 @@ use Rattle.telephone.proofs.calls.smr_result.Lts as lts
 use Rattle.calling.proofs.decide_result.Reads as decide-result-reads
 use Rattle.messages.proofs.layout.sent_first.Reads as sent-first-reads
 use Rattle.sending.proofs.put_answer.Reads as put-answer-reads
-use Rattle.table.proofs.write_entry.Reads as write-entry-reads
+use Rattle.table.proofs.change_entry.Reads as change-entry-reads
 
 decide-result-requires : tie.Need-decide-result-requires
 decide-result-requires c κs = search needs
@@ -50,8 +50,8 @@ put-answer-requires c κs =
     let w = rw (c .before .before .before .entry .given .1) at (c .before .before .before .before .before .decide-result .ensures .1 .0) in
     answer-room _ _ _ _ _ (w .1 .1 .1 .0) (w .1 .1 .1 .1)
 
-write-entry-requires : tie.Need-write-entry-requires
-write-entry-requires c κs = let w = rw (c .before .before .before .before .before .before .before .entry .given .1) at (c .before .before .before .before .before .before .before .before .before .decide-result .ensures .1 .0) in w .0
+change-entry-requires : tie.Need-change-entry-requires
+change-entry-requires c κs = let w = rw (c .before .before .before .before .before .before .before .entry .given .1) at (c .before .before .before .before .before .before .before .before .before .decide-result .ensures .1 .0) in w .0
 
 same-length-2 : tie.Need-same-length-2
 same-length-2 c = search needs
@@ -64,11 +64,11 @@ unfolding result
 returns-2 c =
     let g = c .before .before .before .before .before .before .before .before .before .before .entry .given in
     let m : List ℕ = layout.facilityMessage (layout.sentFirst (c .before .before .before .before .before .before .before .before .before .before .before .before .before .before .before .before .before .args .flag) (c .before .before .before .before .before .before .before .before .before .before .before .before .before .before .before .before .before .args .value)) (componentOctets (resultFor (c .before .before .before .before .before .before .before .before .before .before .before .before .before .before .before .before .before .args .id) (g .0 .1 .1 .0) (c .before .before .before .before .before .before .before .before .before .before .before .before .before .before .before .before .before .args .parameter .now))) in
-    let s : Sending = record { entry = g .0 .0; becomes = slotSeen (g .0 .1 .0); message = m } in
+    let s : Sending = record { entry = g .0 .0; change = changeSeen (g .0 .1 .0); message = m } in
     let e : sound s ≡ calls.sendResult (c .before .before .before .before .before .before .before .before .before .before .before .before .before .before .before .before .before .args .table .now) (length (c .before .before .before .before .before .before .before .before .before .before .before .before .before .before .before .before .before .args .buffer .now)) (c .before .before .before .before .before .before .before .before .before .before .before .before .before .before .before .before .before .args .flag) (c .before .before .before .before .before .before .before .before .before .before .before .before .before .before .before .before .before .args .value) (c .before .before .before .before .before .before .before .before .before .before .before .before .before .before .before .before .before .args .id) (c .before .before .before .before .before .before .before .before .before .before .before .before .before .before .before .before .before .args .parameter .now) = (rw (held-is (c .before .before .before .before .before .before .before .before .before .before .before .before .before .before .before .before .before .fits .id)) at (rw (g .1) at (c .before .before .before .before .before .before .before .before .before .before .before .before .decide-result .ensures .0))) in
     let f : c .before .before .before .before .before .before .put-answer .last .0 ≡ splice (c .before .before .before .before .before .before .before .before .before .before .before .before .before .before .before .before .before .args .buffer .now) 0 m = rw (held-is (c .before .before .before .before .before .before .before .before .before .before .before .before .before .before .before .before .before .fits .id), c .before .before .before .before .before .before .before .before .sent-first .ensures) at (c .before .before .before .before .before .before .put-answer .ensures .0) in
     let l : c .before .before .before .before .before .before .put-answer .result ≡ length m = rw (held-is (c .before .before .before .before .before .before .before .before .before .before .before .before .before .before .before .before .before .fits .id), c .before .before .before .before .before .before .before .before .sent-first .ensures) at (c .before .before .before .before .before .before .put-answer .ensures .1) in
-    sent-as (c .before .before .before .before .before .before .before .before .before .before .before .before .before .before .before .before .before .args .table .now) (c .before .before .before .before .before .before .before .before .before .before .before .before .before .before .before .before .before .args .buffer .now) noValue (calls.sendResult (c .before .before .before .before .before .before .before .before .before .before .before .before .before .before .before .before .before .args .table .now) (length (c .before .before .before .before .before .before .before .before .before .before .before .before .before .before .before .before .before .args .buffer .now)) (c .before .before .before .before .before .before .before .before .before .before .before .before .before .before .before .before .before .args .flag) (c .before .before .before .before .before .before .before .before .before .before .before .before .before .before .before .before .before .args .value) (c .before .before .before .before .before .before .before .before .before .before .before .before .before .before .before .before .before .args .id) (c .before .before .before .before .before .before .before .before .before .before .before .before .before .before .before .before .before .args .parameter .now)) s 0 _ _ _ e refl l f (c .before .before .write-entry .ensures)
+    sent-as (c .before .before .before .before .before .before .before .before .before .before .before .before .before .before .before .before .before .args .table .now) (c .before .before .before .before .before .before .before .before .before .before .before .before .before .before .before .before .before .args .buffer .now) noValue (calls.sendResult (c .before .before .before .before .before .before .before .before .before .before .before .before .before .before .before .before .before .args .table .now) (length (c .before .before .before .before .before .before .before .before .before .before .before .before .before .before .before .before .before .args .buffer .now)) (c .before .before .before .before .before .before .before .before .before .before .before .before .before .before .before .before .before .args .flag) (c .before .before .before .before .before .before .before .before .before .before .before .before .before .before .before .before .before .args .value) (c .before .before .before .before .before .before .before .before .before .before .before .before .before .before .before .before .before .args .id) (c .before .before .before .before .before .before .before .before .before .before .before .before .before .before .before .before .before .args .parameter .now)) s 0 _ _ _ e refl l f (c .before .before .change-entry .ensures)
 
 pub smr-result-spec : {M : Type 1} → statement M
 smr-result-spec =
@@ -81,7 +81,7 @@ smr-result-spec =
     enum-known-entry
     sent-first-requires
     put-answer-requires
-    write-entry-requires
+    change-entry-requires
     same-length-2
     same-length-3
     returns-2)

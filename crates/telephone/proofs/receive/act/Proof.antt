@@ -2,7 +2,7 @@ use borrow.Author.Needs.{needs}
 use mathlib.Core.Path.{refl}
 use native.Mathlib.Omega.{arith}
 use lib.ListN.{drop}
-use Rattle.telephone.proofs.Paths.{entry-fits, splice-none, done, done-bare, acts, cause-small, cause-within}
+use Rattle.telephone.proofs.Paths.{entry-there, taken-there, splice-none, done, done-bare, acts, cause-small, cause-within}
 use Rattle.telephone.proofs.receive.act.Statement.{statement}
 use Rattle.telephone.proofs.receive.act.Tie as tie
 use Rattle.telephone.proofs.receive.act.Reads as reads
@@ -12,7 +12,7 @@ use Rattle.deciding.proofs.reply_first.Reads as reply-first-reads
 use Rattle.sending.proofs.put_release.Reads as put-release-reads
 use Rattle.sending.proofs.put_release_cause.Reads as put-release-cause-reads
 use Rattle.sending.proofs.put_release_reject.Reads as put-release-reject-reads
-use Rattle.table.proofs.write_entry.Reads as write-entry-reads
+use Rattle.table.proofs.change_entry.Reads as change-entry-reads
 use Rattle.telephone.proofs.receive.close.Reads as close-reads
 use Rattle.telephone.proofs.receive.done.Reads as done-reads
 
@@ -40,13 +40,13 @@ put-release-cause-requires : tie.Need-put-release-cause-requires
 put-release-cause-requires c κs =
     let a = c .before .before .before .before .before .before .before .before .before .args in
     let w = c .before .before .before .before .before .before .before .before .before .pre .0 (acts (a .decision) _ (c .before .before .act2 .given .1) refl) in
-    (cause-small (drop 2 (a .message .now)) (a .decision) _ (c .before .before .act2 .given .1) (c .before .before .before .before .before .before .before .before .before .pre .1), omega arith)
+    (cause-small (drop 2 (a .message .now)) (a .decision) _ (c .before .before .act2 .given .1) (c .before .before .before .before .before .before .before .before .before .pre .1 .0), omega arith)
 
 close-requires : tie.Need-close-requires
 close-requires c κs =
     let a = c .before .before .before .before .before .before .before .before .before .before .before .before .before .args in
     let w = c .before .before .before .before .before .before .before .before .before .before .before .before .before .pre .0 (acts (a .decision) _ (c .before .before .before .before .before .before .act2 .given .1) refl) in
-    rw (c .before .before .before .before .before .before .before .before .before .picked-entry .ensures) (entry-fits (a .table .now) (a .message .now) _ w)
+    rw (c .before .before .before .before .before .before .before .before .before .picked-entry .ensures) (entry-there (a .table .now) (a .message .now) _ w)
 
 done-requires-2 : tie.Need-done-requires-2
 done-requires-2 c κs = search needs
@@ -76,7 +76,7 @@ close-requires-2 : tie.Need-close-requires-2
 close-requires-2 c κs =
     let a = c .before .before .before .before .before .before .before .before .before .before .before .before .before .args in
     let w = c .before .before .before .before .before .before .before .before .before .before .before .before .before .pre .0 (acts (a .decision) _ (c .before .before .before .before .before .before .act3 .given .1) refl) in
-    rw (c .before .before .before .before .before .before .before .before .before .picked-entry .ensures) (entry-fits (a .table .now) (a .message .now) _ w)
+    rw (c .before .before .before .before .before .before .before .before .before .picked-entry .ensures) (entry-there (a .table .now) (a .message .now) _ w)
 
 done-requires-3 : tie.Need-done-requires-3
 done-requires-3 c κs = search needs
@@ -106,7 +106,7 @@ close-requires-3 : tie.Need-close-requires-3
 close-requires-3 c κs =
     let a = c .before .before .before .before .before .before .before .before .before .before .before .before .args in
     let w = c .before .before .before .before .before .before .before .before .before .before .before .before .pre .0 (acts (a .decision) _ (c .before .before .before .before .before .enum-told .given .1) refl) in
-    rw (c .before .before .before .before .before .before .before .before .picked-entry .ensures) (entry-fits (a .table .now) (a .message .now) _ w)
+    rw (c .before .before .before .before .before .before .before .before .picked-entry .ensures) (entry-there (a .table .now) (a .message .now) _ w)
 
 done-requires-4 : tie.Need-done-requires-4
 done-requires-4 c κs = search needs
@@ -130,7 +130,7 @@ close-requires-4 : tie.Need-close-requires-4
 close-requires-4 c κs =
     let a = c .before .before .before .before .before .before .before .before .before .args in
     let w = c .before .before .before .before .before .before .before .before .before .pre .0 (acts (a .decision) _ (c .before .before .act4 .given .1) refl) in
-    rw (c .before .before .before .before .before .picked-entry .ensures) (entry-fits (a .table .now) (a .message .now) _ w)
+    rw (c .before .before .before .before .before .picked-entry .ensures) (entry-there (a .table .now) (a .message .now) _ w)
 
 same-length-7 : tie.Need-same-length-7
 same-length-7 c = search needs
@@ -139,17 +139,17 @@ returns-5 : tie.Need-returns-5
 returns-5 c =
     let a = c .before .before .before .before .before .before .before .before .before .before .before .before .args in
     let g = c .before .before .before .before .before .act4 .given in
-    done (a .table .now) (a .message .now) (a .reply .now) (a .decision) _ (g .1) (record { code = 5; written = 0; cause = g .0 .0 }) _ _ refl refl refl (cause-within (drop 2 (a .message .now)) (a .decision) _ (g .1) (c .before .before .before .before .before .before .before .before .before .before .before .before .pre .1))
+    done (a .table .now) (a .message .now) (a .reply .now) (a .decision) _ (g .1) (record { code = 5; written = 0; cause = g .0 .0 }) _ _ refl refl refl (cause-within (drop 2 (a .message .now)) (a .decision) _ (g .1) (c .before .before .before .before .before .before .before .before .before .before .before .before .pre .1 .0))
     (splice-none (a .reply .now)) (rw (← c .before .before .before .before .before .before .before .before .picked-entry .ensures) (c .before .before .close4 .ensures))
 
 enum-known-act-5 : tie.Need-enum-known-act-5
 enum-known-act-5 c = search needs
 
-write-entry-requires : tie.Need-write-entry-requires
-write-entry-requires c κs =
+change-entry-requires : tie.Need-change-entry-requires
+change-entry-requires c κs =
     let a = c .before .before .before .before .before .before .before .before .before .args in
     let w = c .before .before .before .before .before .before .before .before .before .pre .0 (acts (a .decision) _ (c .before .before .act5 .given .1) refl) in
-    rw (c .before .before .before .before .before .picked-entry .ensures) (entry-fits (a .table .now) (a .message .now) _ w)
+    rw (c .before .before .before .before .before .picked-entry .ensures) (taken-there (a .table .now) (a .message .now) _ (a .decision) _ (c .before .before .act5 .given .1) w (c .before .before .before .before .before .before .before .before .before .pre .1 .1))
 
 done-requires-5 : tie.Need-done-requires-5
 done-requires-5 c κs = search needs
@@ -161,7 +161,7 @@ returns-6 : tie.Need-returns-6
 returns-6 c =
     let a = c .before .before .before .before .before .before .before .before .before .before .before .before .before .args in
     done-bare (a .table .now) (a .message .now) (a .reply .now) (a .decision) _ (c .before .before .before .before .before .before .act5 .given .1) (c .done5 .result) _ _ _ _ (c .done5 .ensures) refl refl refl
-    (splice-none (a .reply .now)) (rw (← c .before .before .before .before .before .before .before .before .before .picked-entry .ensures) (c .before .before .before .write-entry .ensures))
+    (splice-none (a .reply .now)) (rw (← c .before .before .before .before .before .before .before .before .before .picked-entry .ensures) (c .before .before .before .change-entry .ensures))
 
 pub act-spec : {M : Type 1} → statement M
 act-spec =
@@ -198,7 +198,7 @@ act-spec =
     same-length-7
     returns-5
     enum-known-act-5
-    write-entry-requires
+    change-entry-requires
     done-requires-5
     same-length-8
     returns-6)

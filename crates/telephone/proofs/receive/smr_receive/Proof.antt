@@ -1,7 +1,11 @@
 use borrow.Author.Needs.{needs}
-use mathlib.Core.Path.{_≡_, _∙_}
-use lib.ListN.{drop}
+use mathlib.Core.Path.{_≡_, sym, subst, _∙_}
+use lib.ListN.{length, drop}
 use Rattle.octets.proofs.PartLaws.{rest-part}
+use Rattle.table.specs.Table.{entryAt}
+use Rattle.deciding.specs.Steps.{pickedEntry}
+use Rattle.deciding.specs.Seen.{Keeps}
+use Rattle.deciding.proofs.Keeps.{decide-keeps}
 use Rattle.telephone.specs.Receive.{receive}
 use Rattle.telephone.proofs.Paths.{shown-as}
 use Rattle.telephone.proofs.receive.smr_receive.Statement.{statement}
@@ -17,7 +21,10 @@ decide-requires : tie.Need-decide-requires
 decide-requires c κs = search needs
 
 act-requires : tie.Need-act-requires
-act-requires c κs = search needs
+act-requires c κs =
+    let a = c .before .before .before .before .before .before .before .args in
+    let d = c .before .before .decide .ensures in
+    (d .1, (d .0 .1, subst (Keeps (entryAt (a .table .now) (pickedEntry (a .message .now)))) (sym (d .0 .0)) (decide-keeps (a .table .now) (a .message .now) (length (a .reply .now)))))
 
 part-requires : tie.Need-part-requires
 part-requires c κs = search needs
