@@ -1,6 +1,6 @@
 use borrow.Author.Needs.{needs}
 use mathlib.Core.Path.{_≡_, ap, _∙_}
-use Prim.Native.Nat.{ℕ}
+use Prim.Native.Nat.{ℕ, _/_, _%_}
 use lib.Dec.{eqb}
 use Rattle.codes.proofs.IdLaws.{held-is}
 use Rattle.sides.specs.Side.{operationOf}
@@ -25,7 +25,8 @@ returns c =
     let a = c .before .before .args in
     let l = c .before .before .fits .side .fits in
     let i = held-is (c .before .before .fits .id) in
-    let e : c .operation-in .result ≡ operationOf (a .id) (sideSeen (a .side)) = rw (c .before .find .ensures, i) at (c .operation-in .ensures) ∙ operation-at (a .id) (a .side) l in
+    let q : c .operation-in .result ≡ c .before .find .result .rest / 256 % 256 = c .operation-in .ensures in
+    let e : c .operation-in .result ≡ operationOf (a .id) (sideSeen (a .side)) = rw (c .before .find .ensures, i) at q ∙ operation-at (a .id) (a .side) l in
     (e, ap (λ (n : ℕ). eqb n 0) e ∙ used-told (a .id) (a .side))
 
 pub operation-of-spec : {M : Type 1} → statement M
