@@ -23,7 +23,7 @@ use Rattle.table.proofs.TableLaws.{holds-at}
 use Rattle.table.proofs.ChangeLaws.{opens-holds, adds-holds, clears-holds, opens-open, adds-open, clears-open}
 use Rattle.judging.specs.StepSix.{Judged, problem, accepted, judgeInvoke, judgeResult, judgeError}
 use Rattle.judging.proofs.Walk.{walk-invoke, walk-result, walk-error}
-use Rattle.deciding.specs.Decision.{Decision, silent, withCause, withReject, onReject, released, taken}
+use Rattle.deciding.specs.Decision.{taken}
 use Rattle.deciding.specs.Steps.{firstOctet, pickedEntry, onJudged, stepSix, stepFour, fiveAndSix, fourToSix, onRelease, decide}
 use Rattle.deciding.specs.Seen.{Keeps}
 use Rattle.deciding.proofs.StepLaws.{tested, by-type}

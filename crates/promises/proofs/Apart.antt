@@ -3,15 +3,15 @@ use Prim.Native.Nat.{ℕ}
 use mathlib.Core.Path.{_≡_, refl, sym, ap, _∙_}
 use mathlib.Core.List.{List, [], _∷_}
 use mathlib.Core.Bool.{Bool, true, false, cond, _||_, false≢true}
-use mathlib.Core.Option.{Option, some}
+use mathlib.Core.Option.{Option}
 use lib.IntN.{ℤ}
-use lib.ListN.{length, drop}
+use lib.ListN.{drop}
 use borrow.Author.Tests.{eq-eqb}
 use Rattle.codes.specs.Ids.{octetOf}
 use Rattle.components.specs.Component.{Component, invoke, result, error}
 use Rattle.messages.specs.Scan.{firstTaken}
 use Rattle.sides.specs.Side.{Waiting, sameId, among, full, operationOf}
-use Rattle.table.specs.Table.{Entry, entryAt, valid}
+use Rattle.table.specs.Table.{Entry, entryAt}
 use Rattle.judging.specs.StepSix.{judgeInvoke, judgeResult, judgeError}
 use Rattle.deciding.specs.Decision.{Decision, silent, withCause, withReject, onReject, released, taken, shownBy}
 use Rattle.deciding.specs.Steps.{pickedEntry, exceptInvoke, stepSix}

@@ -1,5 +1,5 @@
 -- The cases of [5]: by computation, and as instances of what is promised.
-use mathlib.Core.Path.{_≡_, refl}
+use mathlib.Core.Path.{refl}
 use mathlib.Core.List.{[]}
 use mathlib.Core.Option.{none, some}
 use lib.IntN.{pos}

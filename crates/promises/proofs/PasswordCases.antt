@@ -1,7 +1,7 @@
 -- The request's story: what is refused and what is shown by the theorem, what is written by computation.
 use Prim.Native.Nat.{ℕ}
-use mathlib.Core.Path.{_≡_, refl, sym, subst}
-use mathlib.Core.List.{List, [], _∷_}
+use mathlib.Core.Path.{refl, sym, subst}
+use mathlib.Core.List.{[]}
 use mathlib.Core.Bool.{true, false≢true}
 use mathlib.Core.Option.{some}
 use lib.IntN.{pos}

@@ -1,17 +1,16 @@
 -- What waits after a message or a call is what waited, with one change.
-use Prim.Native.Nat.{ℕ, _≤_, _<_}
+use Prim.Native.Nat.{ℕ}
 use mathlib.Core.Path.{_≡_, refl, sym, ap, subst, _∙_}
-use mathlib.Core.List.{List, [], _∷_, _++_}
-use mathlib.Core.Bool.{Bool, true, false, cond, not, _&&_, _||_, false≢true}
+use mathlib.Core.List.{List, [], _∷_}
+use mathlib.Core.Bool.{Bool, true, false, cond, not, _||_, false≢true}
 use mathlib.Core.Option.{Option, none, some}
 use native.Mathlib.Omega.{arith}
-use borrow.Author.Tests.{eqb-true, eqb-false, eq-eqb, not-true}
+use borrow.Author.Tests.{eqb-true, not-true}
 use lib.IntN.{ℤ}
-use lib.Dec.{eqb}
-use lib.ListN.{length, getD, drop}
+use lib.ListN.{length}
 use Rattle.octets.specs.Octets.{Octets}
-use Rattle.octets.specs.Reader.{Answer, fault, sound, Taken}
-use Rattle.octets.proofs.ReaderLaws.{sound-inj, through, passed}
+use Rattle.octets.specs.Reader.{Answer, fault, sound}
+use Rattle.octets.proofs.ReaderLaws.{through, passed}
 use Rattle.octets.proofs.TestLaws.{both}
 use Rattle.codes.specs.Ids.{octetOf}
 use Rattle.codes.specs.Operations.{begins, waits}
@@ -22,25 +21,24 @@ use Rattle.components.specs.Component.{Component, invoke, reject}
 use Rattle.components.specs.Component as component
 use Rattle.components.specs.Facility.{Finding, empty, shows, general, leftOver, faultyReject, facility}
 use Rattle.components.specs.Shows.{Shows}
-use Rattle.messages.specs.Layout.{value, flag, facilityType, registerType}
-use Rattle.messages.specs.Scan.{required}
+use Rattle.messages.specs.Layout.{value, flag}
 use Rattle.sides.specs.Side.{Waiting, sameId, among, full, operationOf, without, noneTwice}
-use Rattle.sides.proofs.SideLaws.{Ids, fit-of}
-use Rattle.table.specs.Table.{Entry, named, entryAt, valid, lowestClosed, holds, withEntry}
-use Rattle.table.specs.Change.{Change, ours, peers, opens, closes, adds, clears, changed, withChange, CanChange}
+use Rattle.sides.proofs.SideLaws.{fit-of}
+use Rattle.table.specs.Table.{Entry, named, entryAt, valid, lowestClosed}
+use Rattle.table.specs.Change.{Change, ours, peers, opens, adds, clears, changed, withChange, CanChange}
 use Rattle.table.proofs.TableLaws.{holds-parts, holds-at, ids-at, fits-at, read-written, lowest-closed-is}
 use Rattle.table.proofs.ChangeLaws.{SaidIn, changed-ids, closed-none}
-use Rattle.judging.specs.StepSix.{Judged, problem, accepted, kept, cleared, judgeInvoke, judgeResult, judgeError}
+use Rattle.judging.specs.StepSix.{kept, cleared}
 use Rattle.judging.proofs.Walk.{walk-invoke, walk-result, walk-error}
 use Rattle.deciding.specs.Decision.{Decision, silent, withCause, withReject, onReject, released, taken}
-use Rattle.deciding.specs.Steps.{firstOctet, pickedEntry, onJudged, stepSix, fiveAndSix, decide}
+use Rattle.deciding.specs.Steps.{pickedEntry, onJudged, stepSix, fiveAndSix, decide}
 use Rattle.deciding.specs.Seen.{Ready, Keeps}
 use Rattle.deciding.proofs.Keeps.{decide-keeps}
-use Rattle.calling.specs.Calls.{Sending, orRefused, transaction, fitting, sendBegin, sendInvoke, sendResult, sendError}
+use Rattle.calling.specs.Calls.{Sending, orRefused, transaction, sendBegin, sendInvoke, sendResult, sendError}
 use Rattle.telephone.specs.Receive.{act, receive}
 use Rattle.telephone.specs.Calls.{callOutcome, noValue, begin, invokeWithin, result, error}
 use Rattle.telephone.proofs.Paths.{entry-there, named-value, fitting-is}
-use Rattle.promises.specs.Four.{Cleared, Behind, AfterTaken, AfterShown, WaitsAfterMessage, WaitsAfterCall, KnownOf, SidesKnown, waitingFor}
+use Rattle.promises.specs.Four.{Cleared, Behind, AfterTaken, AfterShown, WaitsAfterMessage, WaitsAfterCall, SidesKnown, waitingFor}
 use Rattle.promises.proofs.Walk.{walk}
 use Rattle.promises.proofs.Silence.{Says, decide-says, isLoud, loud-ready}
 use Rattle.promises.proofs.RejectBack.{Rejects, decide-rejects}

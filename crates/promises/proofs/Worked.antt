@@ -1,5 +1,5 @@
 -- W1 to W10 hold, by computation.
-use mathlib.Core.Path.{_≡_, refl}
+use mathlib.Core.Path.{refl}
 use Rattle.sides.specs.Side.{among as sides-among, full as sides-full, operationOf as sides-operationOf, without as sides-without, sideOf as sides-sideOf, sideOctets as sides-sideOctets, soundSide as sides-soundSide}
 use Rattle.calling.specs.Calls.{transaction as calling-transaction, fitting as calling-fitting, sendBegin as calling-begin, sendResult as calling-sendResult}
 use Rattle.codes.specs.Errors.{listed as codes-listed}

@@ -15,7 +15,7 @@ use Rattle.codes.specs.Operations.{waits}
 use Rattle.components.specs.Component.{Component, invoke, result, error, reject}
 use Rattle.components.specs.Shows.{Shows}
 use Rattle.sides.specs.Side.{Waiting, among, operationOf, without}
-use Rattle.table.specs.Table.{Entry, closed, named, entryAt, valid}
+use Rattle.table.specs.Table.{Entry, named, entryAt, valid}
 use Rattle.deciding.specs.Steps.{pickedEntry}
 use Rattle.telephone.specs.Outcome.{Outcome}
 use Rattle.telephone.specs.Receive.{receive}

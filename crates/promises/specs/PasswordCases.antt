@@ -2,7 +2,6 @@
 use Prim.Native.Nat.{ℕ}
 use mathlib.Core.Path.{_≡_}
 use mathlib.Core.List.{List, [], _∷_, _++_}
-use mathlib.Core.Bool.{true}
 use mathlib.Core.Option.{none, some}
 use lib.IntN.{pos}
 use Rattle.table.specs.Change.{ours, clears}

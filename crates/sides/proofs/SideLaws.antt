@@ -4,7 +4,7 @@ use mathlib.Core.Bool.{Bool, true, false, cond, not, _&&_, _||_, false≢true}
 use mathlib.Core.List.{List, [], _∷_, _++_}
 use Prim.Native.Nat.{ℕ, zero, suc, _+_, _*_, _/_, _%_, _<_, _≤_}
 use native.Mathlib.Omega.{arith}
-use borrow.Author.Tests.{eqb-true, eqb-false, eq-eqb, ne-eqb, le-leb, leb-true, leb-false, not-true, not-false}
+use borrow.Author.Tests.{eqb-true, eqb-false, eq-eqb, ne-eqb, le-leb, leb-true, leb-false, not-true}
 use lib.Dec.{eqb, leb}
 use lib.IntN.{ℤ}
 use lib.ListN.{length, length-append}
@@ -15,7 +15,7 @@ use Rattle.codes.proofs.IdLaws.{IsId, is-id, octet-back, id-back}
 use Rattle.sides.specs.Side.{Waiting, places, sameId, among, full, without, eachListed, noneTwice, holdsSide, sideOf, sideOctets, allZero, soundSide}
 use Rattle.sides.specs.Seen.{octetsIn, octetsSeen, sideSeen, Settled, joinedAt, shifted, before, withLast, withoutId}
 use Rattle.sides.proofs.Numbers.{power, firstOf, side-most}
-use Rattle.sides.proofs.Steps.{no-place, first-is}
+use Rattle.sides.proofs.Steps.{first-is}
 
 -- ids that one octet can say, and operations that are none but 0
 abbrev pub Held : List Waiting → Type 0

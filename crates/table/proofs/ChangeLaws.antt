@@ -1,18 +1,18 @@
 -- A change leaves an entry that an image can hold, and a table that is sound: what each step has to know of the side it changes.
-use Prim.Native.Nat.{ℕ, _<_}
-use mathlib.Core.Path.{_≡_, refl, sym, ap, _∙_}
-use mathlib.Core.Bool.{Bool, true, false, not, _&&_, _||_, false≢true}
+use Prim.Native.Nat.{ℕ}
+use mathlib.Core.Path.{_≡_, refl}
+use mathlib.Core.Bool.{Bool, true, false, false≢true}
 use mathlib.Core.List.{List, [], _∷_}
 use lib.IntN.{ℤ}
 use Rattle.octets.specs.Octets.{Octets}
 use Rattle.octets.proofs.TestLaws.{both}
 use Rattle.codes.specs.Operations.{begins, waits}
 use Rattle.codes.proofs.IdLaws.{IsId}
-use Rattle.sides.specs.Side.{Waiting, among, full, isEmpty, holdsSide}
+use Rattle.sides.specs.Side.{Waiting, among, full, isEmpty}
 use Rattle.sides.proofs.SideLaws.{Ids, holds-last, holds-first, holds-none, holds-less, ids-last, ids-less}
-use Rattle.table.specs.Table.{Entry, closed, entryAt, valid, holds, size}
+use Rattle.table.specs.Table.{Entry, closed, entryAt, valid, holds}
 use Rattle.table.specs.Change.{Side, ours, peers, Change, opens, closes, adds, clears, changed, withChange, CanChange}
-use Rattle.table.proofs.TableLaws.{holds-parts, open-holds, holds-at, ids-at, fits-at, valid-with}
+use Rattle.table.proofs.TableLaws.{holds-parts, open-holds, ids-at, fits-at, valid-with}
 
 -- the invokes of a side, and the operations that it may hold
 abbrev pub onThe : Side → Entry → List Waiting

@@ -1,6 +1,8 @@
 -- The contracts leave one answer: two that say the same are equal.
-use mathlib.Core.Path.{_≡_, refl}
+use mathlib.Core.Path.{_≡_, refl, sym, ap, _∙_}
 use mathlib.Core.Bool.{true, false}
+use Rattle.table.specs.Change.{ours, peers, opens, closes, adds, clears}
+use Rattle.table.specs.Change as spec
 use Rattle.table.specs.Seen.{namedSeen, changeSeen}
 use Rattle.table.specs.declared.Named.{Named}
 use Rattle.table.specs.declared.Named.the-variants.{Nothing, At}
@@ -13,26 +15,22 @@ named-determined Nothing (At k) e = cc
 named-determined (At k) Nothing e = cc
 named-determined (At k) (At j) e = cc
 
+-- the code's change that a change is seen of
+abbrev changeOf : spec.Change → Change
+changeOf opens = Opens
+changeOf closes = Closes
+changeOf (adds ours id operation) = Adds true id operation
+changeOf (adds peers id operation) = Adds false id operation
+changeOf (clears ours id) = Clears true id
+changeOf (clears peers id) = Clears false id
+
+change-of : (r : Change) → r ≡ changeOf (changeSeen r)
+change-of Opens = refl
+change-of Closes = refl
+change-of (Adds true id operation) = refl
+change-of (Adds false id operation) = refl
+change-of (Clears true id) = refl
+change-of (Clears false id) = refl
+
 pub change-determined : (r q : Change) → changeSeen r ≡ changeSeen q → r ≡ q
-change-determined Opens Opens e = refl
-change-determined Opens Closes e = cc
-change-determined Opens (Adds b i o) e = cc
-change-determined Opens (Clears b i) e = cc
-change-determined Closes Opens e = cc
-change-determined Closes Closes e = refl
-change-determined Closes (Adds b i o) e = cc
-change-determined Closes (Clears b i) e = cc
-change-determined (Adds a i o) Opens e = cc
-change-determined (Adds a i o) Closes e = cc
-change-determined (Adds true i o) (Adds true j p) e = cc
-change-determined (Adds true i o) (Adds false j p) e = cc
-change-determined (Adds false i o) (Adds true j p) e = cc
-change-determined (Adds false i o) (Adds false j p) e = cc
-change-determined (Adds a i o) (Clears b j) e = cc
-change-determined (Clears a i) Opens e = cc
-change-determined (Clears a i) Closes e = cc
-change-determined (Clears a i) (Adds b j o) e = cc
-change-determined (Clears true i) (Clears true j) e = cc
-change-determined (Clears true i) (Clears false j) e = cc
-change-determined (Clears false i) (Clears true j) e = cc
-change-determined (Clears false i) (Clears false j) e = cc
+change-determined r q e = change-of r ∙ ap changeOf e ∙ sym (change-of q)

@@ -1,6 +1,6 @@
 -- Octets joined in one number, and a part of the table taken apart.
 use mathlib.Core.Path.{_≡_, refl, sym, ap, _∙_}
-use mathlib.Core.Bool.{Bool, true, false, _&&_, false≢true}
+use mathlib.Core.Bool.{Bool, true, false, _&&_}
 use mathlib.Core.List.{List, [], _∷_}
 use Prim.Native.Nat.{ℕ, zero, suc, _+_, _*_, _-_, _/_, _%_, _<_, _≤_}
 use native.Mathlib.Omega.{arith}
@@ -11,9 +11,8 @@ use lib.Seq.{ext-getD}
 use Rattle.octets.specs.Octets.{Octets}
 use Rattle.octets.specs.Part.{between}
 use Rattle.octets.proofs.PartLaws.{length-between, getD-between}
-use Rattle.octets.proofs.TestLaws.{both}
-use Rattle.sides.specs.Side.{allZero, sideOf}
-use Rattle.sides.specs.Seen.{octetsIn, octetsSeen, sideSeen}
+use Rattle.sides.specs.Side.{allZero}
+use Rattle.sides.specs.Seen.{octetsIn, octetsSeen}
 use Rattle.table.specs.Raw.{joinOf}
 
 -- the eight octets from a place on

@@ -1,15 +1,15 @@
 -- What the code's proofs cite: the test of an entry and of the image, the named entry, the scan for a closed value, and what a change
 -- writes.
 use mathlib.Core.Path.{_≡_, refl, sym, ap, _∙_}
-use mathlib.Core.Bool.{Bool, true, false, cond, not, _&&_, _||_, false≢true}
+use mathlib.Core.Bool.{Bool, true, false, not, _&&_, false≢true}
 use mathlib.Core.List.{List, [], _∷_, _++_}
 use mathlib.Core.Option.{none, some}
 use Prim.Native.Nat.{ℕ, suc, _+_, _*_, _-_, _<_, _≤_}
 use native.Mathlib.Nat.{le-antisymm}
 use native.Mathlib.Numerals.{add-one}
 use native.Mathlib.Omega.{arith}
-use borrow.Author.Tests.{eqb-true, eqb-false, eq-eqb, ne-eqb, le-leb, lt-leb}
-use lib.Dec.{eqb, leb}
+use borrow.Author.Tests.{eq-eqb, ne-eqb, le-leb, lt-leb}
+use lib.Dec.{eqb}
 use lib.IntN.{ℤ}
 use lib.ListN.{length, getD, length-append}
 use Rattle.octets.specs.Octets.{Octets}
@@ -21,9 +21,9 @@ use Rattle.codes.specs.Ids.{idOf, octetOf}
 use Rattle.codes.specs.Operations.{begins, waits}
 use Rattle.codes.proofs.IdLaws.{IsId, is-id}
 use Rattle.sides.specs.Side.{Waiting, places, full, without, eachListed, holdsSide, sideOf, sideOctets, allZero, soundSide}
-use Rattle.sides.specs.Seen.{octetsSeen, sideSeen, Settled, withLast, withoutId}
-use Rattle.sides.proofs.SideLaws.{Ids, held-of, held-ids, side-back, none-octets, fit-of, held-listed, last-octets, cleared-octets, ids-less, ids-last, zero-sound}
-use Rattle.table.specs.Table.{Entry, closed, size, named, Image, imageIn, imageAt, noImage, soundImage, stateOf, entryOf, entryAt, soundEntries, valid, entryOctets, withEntry, lowestFrom, holds}
+use Rattle.sides.specs.Seen.{octetsSeen, withLast, withoutId}
+use Rattle.sides.proofs.SideLaws.{Ids, held-of, held-ids, side-back, fit-of, held-listed, last-octets, cleared-octets, ids-less, ids-last, zero-sound}
+use Rattle.table.specs.Table.{Entry, closed, size, named, Image, imageIn, imageAt, soundImage, stateOf, entryOf, entryAt, soundEntries, valid, entryOctets, withEntry, lowestFrom, holds}
 use Rattle.table.specs.Change.{changed, withChange}
 use Rattle.table.specs.Seen.{slotSeen, changeSeen}
 use Rattle.table.specs.Raw.{joinOf, slotOf, IsOctets, slotOctets, slotChanged, ChangeFits}

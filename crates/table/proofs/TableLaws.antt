@@ -2,15 +2,14 @@
 -- the lowest closed value.
 use mathlib.Core.Path.{_≡_, refl, sym, ap, _∙_}
 use mathlib.Core.Bool.{Bool, true, false, cond, not, _&&_, _||_, false≢true}
-use mathlib.Core.List.{List, [], _∷_, _++_}
+use mathlib.Core.List.{List, [], _∷_}
 use mathlib.Core.Option.{none, some}
 use Prim.Native.Nat.{ℕ, zero, suc, _+_, _*_, _-_, _<_, _≤_}
 use native.Mathlib.Nat.{add-zero}
 use native.Mathlib.Omega.{arith}
 use borrow.Author.Tests.{eqb-true, eqb-false, eq-eqb, ltb-true, ltb-false, le-leb, leb-true}
 use lib.Dec.{eqb, ltb, leb, lit<}
-use lib.IntN.{ℤ}
-use lib.ListN.{length, getD, take, drop, replicate, length-append, length-replicate, getD-replicate}
+use lib.ListN.{length, getD, take, drop, length-append}
 use lib.Seq.{ext-getD, take-at, drop-at, take-all}
 use Rattle.octets.proofs.TestLaws.{both}
 use Rattle.octets.specs.Octets.{Octets}
@@ -21,7 +20,7 @@ use Rattle.octets.proofs.PartLaws.{length-between, getD-between}
 use Rattle.octets.proofs.SpliceLaws.{length-splice, getD-within, getD-before, getD-behind}
 use Rattle.codes.specs.Operations.{begins, waits}
 use Rattle.sides.specs.Side.{Waiting, places, isEmpty, holdsSide, sideOf, sideOctets, allZero, soundSide}
-use Rattle.sides.proofs.SideLaws.{Held, Ids, held-of, held-ids, side-back, none-octets, none-zero, octets-length, sound-back, fit-of, sound-holds, held-listed, holds-sound}
+use Rattle.sides.proofs.SideLaws.{Ids, held-of, held-ids, side-back, none-octets, none-zero, octets-length, sound-back, fit-of, sound-holds, held-listed, holds-sound}
 use Rattle.table.specs.Table.{Entry, closed, size, Image, imageIn, noImage, imageAt, entryOf, soundImage, entryAt, soundEntries, valid, added, stateOf, entryOctets, withEntry, lowestFrom, lowestClosed, holds}
 
 three : (a b c : Bool) → (a && b && c) ≡ true → (a ≡ true) × ((b ≡ true) × (c ≡ true))
@@ -154,10 +153,6 @@ settled-own i l o h = sound-back begins 4 (i .own) (l .0) o (sound-parts i h .0 
 
 pub settled-peer : (i : Image) → Eight i → Octets (i .peer) → soundImage i ≡ true → sideOctets places (sideOf (i .peer)) ≡ i .peer
 settled-peer i l o h = sound-back waits 4 (i .peer) (l .1) o (sound-parts i h .1 .0)
-
-pub closed-octets : entryOctets closed ≡ replicate 17 0
-unfolding entryOctets stateOf sideOctets
-closed-octets = refl
 
 entry-length : (e : Entry) → length (entryOctets e) ≡ 17
 unfolding entryOctets
@@ -313,27 +308,6 @@ valid-with t k e h l g x y =
         → soundImage (imageAt (withEntry t k e) j) ≡ true
     here-or f v j m true q = rw (eqb-true j k q, image-written t k e f) (image-sound e g x y)
     here-or f v j m false q = rw (images-stay t j k e f (eqb-false j k q)) (v j m)
-
-pub valid-zero : valid (replicate 238 0) ≡ true
-unfolding valid soundEntries soundImage soundSide entryOf stateOf sideOf
-valid-zero = refl
-
-zero-part : (i j : ℕ) → i + 8 ≡ j → j ≤ 238 → between i j (replicate 238 0) ≡ replicate 8 0
-zero-part i j e l =
-    let n : length (between i j (replicate {A = ℕ} 238 0)) ≡ 8 = length-between i j (replicate 238 0) (rw (length-replicate {A = ℕ} 238 0) l) ∙ omega arith in
-    ext-getD 0 (between i j (replicate 238 0)) (replicate 8 0) n
-    (λ k x. getD-between i j (replicate 238 0) k (omega (arith, n)) ∙ getD-replicate {A = ℕ} 238 (i + k) 0 0 (omega (arith, n)) ∙ sym (getD-replicate {A = ℕ} 8 k 0 0 (omega (arith, n))))
-
-pub zero-closed : (k : ℕ) → k < 14 → entryAt (replicate 238 0) k ≡ closed
-unfolding entryOf sideOf
-zero-closed k l =
-    let f : size * k + size ≤ length (replicate {A = ℕ} 238 0) = rw (length-replicate {A = ℕ} 238 0) (omega arith) in
-    rw (
-      entry-in (replicate 238 0) k f,
-      getD-replicate {A = ℕ} 238 (size * k) 0 0 (omega arith),
-      zero-part (size * k + 1) (size * k + 9) (omega arith) (omega arith),
-      zero-part (size * k + 9) (size * k + 17) (omega arith) (omega arith),
-    )
 
 -- what holds of v and of all behind it
 here-or-on : (t : List ℕ) (v w : ℕ) → entryAt t v .isOpen ≡ true → ((j : ℕ) → suc v ≤ j → j < w → entryAt t j .isOpen ≡ true)

@@ -4,12 +4,11 @@ use mathlib.Core.List.{List, [], _∷_, _++_}
 use mathlib.Core.Bool.{Bool, true, false, cond, not, _&&_, _||_}
 use mathlib.Core.Option.{Option, none, some}
 use lib.ListN.{length, getD, replicate}
-use lib.IntN.{ℤ}
 use lib.Dec.{leb, eqb}
 use Rattle.octets.specs.Part.{between}
 use Rattle.octets.specs.Splice.{splice}
 use Rattle.codes.specs.Operations.{begins, waits}
-use Rattle.sides.specs.Side.{Waiting, places, isEmpty, without, holdsSide, sideOf, sideOctets, allZero, soundSide}
+use Rattle.sides.specs.Side.{Waiting, places, isEmpty, holdsSide, sideOf, sideOctets, allZero, soundSide}
 
 -- An entry: our own invokes that are outstanding, and the peer's, each side in order of arrival.
 pub record Entry : Type 0 where

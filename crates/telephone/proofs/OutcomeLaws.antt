@@ -6,7 +6,7 @@ use mathlib.Core.List.{List}
 use mathlib.Core.Option.{none}
 use lib.ListN.{length, take, drop}
 use lib.Seq.{take-append-seam, drop-append-seam}
-use Rattle.octets.specs.Reader.{fault, sound}
+use Rattle.octets.specs.Reader.{sound}
 use Rattle.octets.specs.Splice.{splice}
 use Rattle.octets.proofs.SpliceLaws.{splice-front}
 use Rattle.table.specs.Table.{size, entryAt}
@@ -37,10 +37,6 @@ module _ (t m b : List ℕ) where
   unfolding act
   reply-is d = front-is b (sentBy m d)
 
-  pub reply-behind : (d : Decision) → drop (act t m b d .written) (act t m b d .buffer) ≡ drop (act t m b d .written) b
-  unfolding act
-  reply-behind d = behind-stays b (sentBy m d)
-
   -- no entry changes but the message's own
   pub others-kept : (d : Decision) (j : ℕ) → size * pickedEntry m + size ≤ length t → (j ≡ pickedEntry m → ⊥) → entryAt (act t m b d .table) j ≡ entryAt t j
   unfolding act withChange
@@ -52,15 +48,6 @@ module _ (t m b : List ℕ) where
   others-kept (taken change shown) j h n = others-stay t j (pickedEntry m) _ h n
 
 module _ (t b : List ℕ) (value : Sending → ℕ) where
-  pub call-refused : (n : ℕ) → callOutcome t b value (fault n) ≡ untouched t b n
-  call-refused n = refl
-
-  pub message-is : (s : Sending) → take (callOutcome t b value (sound s) .written) (callOutcome t b value (sound s) .buffer) ≡ s .message
-  message-is s = front-is b (s .message)
-
-  pub message-behind : (s : Sending) → drop (callOutcome t b value (sound s) .written) (callOutcome t b value (sound s) .buffer) ≡ drop (length (s .message)) b
-  message-behind s = behind-stays b (s .message)
-
   pub call-others : (s : Sending) (j : ℕ) → size * s .entry + size ≤ length t → (j ≡ s .entry → ⊥) → entryAt (callOutcome t b value (sound s) .table) j ≡ entryAt t j
   unfolding withChange
   call-others s j h n = others-stay t j (s .entry) (changed (entryAt t (s .entry)) (s .change)) h n

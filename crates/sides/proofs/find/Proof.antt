@@ -6,7 +6,7 @@ use Rattle.sides.proofs.Steps.{found-is}
 use Rattle.codes.specs.Ids.{idOf}
 use Rattle.sides.proofs.Steps.{found-here, found-behind, found-nowhere, before-four}
 use native.Mathlib.Omega.{arith}
-use mathlib.Core.Path.{_≡_, refl, sym, _∙_}
+use mathlib.Core.Path.{_≡_, refl}
 use Prim.Native.Nat.{_+_}
 use Rattle.sides.specs.Seen.{sideSeen, shifted, before}
 use Rattle.sides.proofs.find.Statement.{statement}

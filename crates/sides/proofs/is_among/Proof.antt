@@ -5,7 +5,6 @@ use Rattle.codes.proofs.IdLaws.{held-is}
 use Rattle.sides.specs.Side.{among}
 use Rattle.sides.specs.Seen.{sideSeen}
 use Rattle.sides.proofs.Steps.{not-not}
-use borrow.Author.Needs.{needs}
 use Rattle.sides.proofs.is_among.Statement.{statement}
 use Rattle.sides.proofs.is_among.Tie as tie
 use Rattle.sides.proofs.is_among.Reads as reads

@@ -1,6 +1,5 @@
 use borrow.Author.Needs.{needs}
 use Rattle.sides.proofs.Steps.{full-told}
-use borrow.Author.Needs.{needs}
 use Rattle.sides.proofs.is_full.Statement.{statement}
 use Rattle.sides.proofs.is_full.Tie as tie
 use Rattle.sides.proofs.is_full.Reads as reads

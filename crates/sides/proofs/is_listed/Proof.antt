@@ -1,5 +1,4 @@
 use borrow.Author.Needs.{needs}
-use borrow.Author.Needs.{needs}
 use Rattle.sides.proofs.is_listed.Statement.{statement}
 use Rattle.sides.proofs.is_listed.Tie as tie
 use Rattle.sides.proofs.is_listed.Reads as reads

@@ -1,6 +1,5 @@
 use borrow.Author.Needs.{needs}
 use Rattle.sides.proofs.Steps.{empty-told}
-use borrow.Author.Needs.{needs}
 use Rattle.sides.proofs.is_none.Statement.{statement}
 use Rattle.sides.proofs.is_none.Tie as tie
 use Rattle.sides.proofs.is_none.Reads as reads

@@ -6,7 +6,6 @@ use Rattle.codes.proofs.IdLaws.{held-is}
 use Rattle.sides.specs.Side.{operationOf}
 use Rattle.sides.specs.Seen.{sideSeen}
 use Rattle.sides.proofs.Steps.{operation-at, used-told}
-use borrow.Author.Needs.{needs}
 use Rattle.sides.proofs.operation_of.Statement.{statement}
 use Rattle.sides.proofs.operation_of.Tie as tie
 use Rattle.sides.proofs.operation_of.Reads as reads

@@ -4,7 +4,7 @@ use mathlib.Core.Path.{ap}
 use Rattle.sides.proofs.Numbers.{side-none, side-most}
 use Rattle.sides.proofs.Steps.{one-more}
 use native.Mathlib.Omega.{arith}
-use mathlib.Core.Path.{_≡_, refl, sym, _∙_}
+use mathlib.Core.Path.{_≡_}
 use Prim.Native.Nat.{_+_}
 use lib.ListN.{length}
 use Rattle.sides.specs.Seen.{sideSeen}

@@ -2,7 +2,6 @@ use borrow.Author.Needs.{needs}
 use mathlib.Core.Path.{_∙_}
 use Rattle.codes.proofs.IdLaws.{handed, id-octet}
 use Rattle.sides.proofs.Steps.{last-none, last-goes, last-is}
-use borrow.Author.Needs.{needs}
 use Rattle.sides.proofs.with_last.Statement.{statement}
 use Rattle.sides.proofs.with_last.Tie as tie
 use Rattle.sides.proofs.with_last.Reads as reads

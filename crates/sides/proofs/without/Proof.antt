@@ -2,7 +2,6 @@ use borrow.Author.Needs.{needs}
 use mathlib.Core.Path.{sym, _∙_}
 use Rattle.codes.proofs.IdLaws.{held-is}
 use Rattle.sides.proofs.Steps.{operation-at, kept-whole, moved-goes, moved-is}
-use borrow.Author.Needs.{needs}
 use Rattle.sides.proofs.without.Statement.{statement}
 use Rattle.sides.proofs.without.Tie as tie
 use Rattle.sides.proofs.without.Reads as reads

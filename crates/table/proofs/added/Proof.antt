@@ -1,7 +1,5 @@
 use borrow.Author.Needs.{needs}
-use mathlib.Core.Path.{_≡_, refl, sym, ap, _∙_}
 use native.Mathlib.Omega.{arith}
-use borrow.Author.Needs.{needs}
 use Rattle.table.proofs.added.Statement.{statement}
 use Rattle.table.proofs.added.Tie as tie
 use Rattle.table.proofs.added.Reads as reads

@@ -7,7 +7,6 @@ use Rattle.table.specs.Raw.{slotOctets, slotChanged}
 use Rattle.table.specs.declared.Slot.{Slot}
 use Rattle.table.proofs.TableLaws.{fits-at}
 use Rattle.table.proofs.Steps.{change-is}
-use borrow.Author.Needs.{needs}
 use Rattle.table.proofs.change_entry.Statement.{statement}
 use Rattle.table.proofs.change_entry.Tie as tie
 use Rattle.table.proofs.change_entry.Reads as reads

@@ -1,9 +1,7 @@
 use borrow.Author.Needs.{needs}
-use mathlib.Core.Path.{_≡_, refl, sym, ap, _∙_}
-use native.Mathlib.Omega.{arith}
+use mathlib.Core.Path.{refl}
 use Prim.Native.Nat.{_<_}
 use Rattle.codes.proofs.IdLaws.{IsId, held-is, id-back, id-octet}
-use borrow.Author.Needs.{needs}
 use Rattle.table.proofs.changed.Statement.{statement}
 use Rattle.table.proofs.changed.Tie as tie
 use Rattle.table.proofs.changed.Reads as reads

@@ -1,12 +1,10 @@
 use borrow.Author.Needs.{needs}
-use mathlib.Core.Path.{_≡_, refl, sym, ap, _∙_}
-use native.Mathlib.Omega.{arith}
+use mathlib.Core.Path.{sym, ap, _∙_}
 use Prim.Native.Nat.{ℕ}
 use lib.ListN.{getD}
 use Rattle.table.specs.Table.{imageIn}
 use Rattle.table.proofs.TableLaws.{eight-in}
 use Rattle.table.proofs.Steps.{closed-is, open-told}
-use borrow.Author.Needs.{needs}
 use Rattle.table.proofs.is_sound.Statement.{statement}
 use Rattle.table.proofs.is_sound.Tie as tie
 use Rattle.table.proofs.is_sound.Reads as reads

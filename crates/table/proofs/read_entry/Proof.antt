@@ -1,8 +1,6 @@
 use borrow.Author.Needs.{needs}
-use mathlib.Core.Path.{_≡_, refl, sym, ap, _∙_}
 use native.Mathlib.Omega.{arith}
 use Rattle.table.proofs.Steps.{past-end, within}
-use borrow.Author.Needs.{needs}
 use Rattle.table.proofs.read_entry.Statement.{statement}
 use Rattle.table.proofs.read_entry.Tie as tie
 use Rattle.table.proofs.read_entry.Reads as reads

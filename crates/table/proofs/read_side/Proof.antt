@@ -1,8 +1,6 @@
 use borrow.Author.Needs.{needs}
-use mathlib.Core.Path.{_≡_, refl, sym, ap, _∙_}
 use native.Mathlib.Omega.{arith}
 use Rattle.table.proofs.Joined.{side-read}
-use borrow.Author.Needs.{needs}
 use Rattle.table.proofs.read_side.Statement.{statement}
 use Rattle.table.proofs.read_side.Tie as tie
 use Rattle.table.proofs.read_side.Reads as reads

@@ -1,8 +1,5 @@
 use borrow.Author.Needs.{needs}
-use mathlib.Core.Path.{_≡_, refl, sym, ap, _∙_}
-use native.Mathlib.Omega.{arith}
 use Rattle.table.proofs.Steps.{slot-read}
-use borrow.Author.Needs.{needs}
 use Rattle.table.proofs.read_slot.Statement.{statement}
 use Rattle.table.proofs.read_slot.Tie as tie
 use Rattle.table.proofs.read_slot.Reads as reads

@@ -1,4 +1,3 @@
-use borrow.Author.Needs.{needs}
 use Rattle.table.proofs.with_side.Statement.{statement}
 use Rattle.table.proofs.with_side.Tie as tie
 use Rattle.table.proofs.with_side.Reads as reads

@@ -1,9 +1,7 @@
 use borrow.Author.Needs.{needs}
-use mathlib.Core.Path.{_≡_, refl, sym, ap, _∙_}
-use native.Mathlib.Omega.{arith}
+use mathlib.Core.Path.{ap, _∙_}
 use Rattle.octets.specs.Splice.{splice}
 use Rattle.table.proofs.Joined.{side-written}
-use borrow.Author.Needs.{needs}
 use Rattle.table.proofs.write_side.Statement.{statement}
 use Rattle.table.proofs.write_side.Tie as tie
 use Rattle.table.proofs.write_side.Reads as reads

@@ -1,6 +1,5 @@
 use borrow.Author.Needs.{needs}
 use Rattle.table.proofs.Steps.{slot-written}
-use borrow.Author.Needs.{needs}
 use Rattle.table.proofs.write_slot.Statement.{statement}
 use Rattle.table.proofs.write_slot.Tie as tie
 use Rattle.table.proofs.write_slot.Reads as reads

@@ -3,7 +3,6 @@ use mathlib.Core.Path.{_∙_}
 use Rattle.table.specs.Table.{entryAt}
 use Rattle.table.proofs.ChangeLaws.{closes-holds}
 use Rattle.telephone.proofs.Paths.{closes-is}
-use borrow.Author.Needs.{needs}
 use Rattle.telephone.proofs.receive.close.Statement.{statement}
 use Rattle.telephone.proofs.receive.close.Tie as tie
 use Rattle.telephone.proofs.receive.close.Reads as reads
