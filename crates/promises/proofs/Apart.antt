@@ -23,12 +23,12 @@ use Rattle.promises.proofs.Reached.{fares, room-left}
 -- one decision in two tables
 same-act : (t u m b : List ℕ) (d : Decision) → SameButTable (act t m b d) (act u m b d)
 unfolding act
-same-act t u m b (silent code) = (refl, (refl, (refl, (refl, refl))))
-same-act t u m b (withCause number) = (refl, (refl, (refl, (refl, refl))))
-same-act t u m b (withReject id tag number) = (refl, (refl, (refl, (refl, refl))))
-same-act t u m b (onReject shown) = (refl, (refl, (refl, (refl, refl))))
-same-act t u m b (released shown cause) = (refl, (refl, (refl, (refl, refl))))
-same-act t u m b (taken change shown) = (refl, (refl, (refl, (refl, refl))))
+same-act t u m b (silent code) = (refl, (refl, (refl, (refl, (refl, λ n. refl)))))
+same-act t u m b (withCause number) = (refl, (refl, (refl, (refl, (refl, λ n. refl)))))
+same-act t u m b (withReject id tag number) = (refl, (refl, (refl, (refl, (refl, λ n. refl)))))
+same-act t u m b (onReject shown) = (refl, (refl, (refl, (refl, (refl, λ n. refl)))))
+same-act t u m b (released shown cause) = (refl, (refl, (refl, (refl, (refl, λ n. refl)))))
+same-act t u m b (taken change shown) = (refl, (refl, (refl, (refl, (refl, λ n. refl)))))
 
 -- what reaches step 6 here reaches it there
 module _ (t u m b : List ℕ) (h : AlsoThere t u m) where

@@ -20,6 +20,7 @@ use Rattle.deciding.specs.Steps.{pickedEntry}
 use Rattle.telephone.specs.Outcome.{Outcome}
 use Rattle.telephone.specs.Receive.{receive}
 use Rattle.telephone.specs.Calls as calls
+use Rattle.telephone.specs.FromC.{receivedOf}
 use Rattle.promises.specs.Reaches.{fewerThanFour, ReachesStepSix, ReachesInRelease}
 
 -- "A result or error clears the place with its id; the others keep their order."
@@ -78,10 +79,12 @@ KnownOf ws = (length ws ≤ 4) × ((id : ℤ) → among id (without id ws) ≡ f
 abbrev pub SidesKnown : Type 0
 SidesKnown = (t : List ℕ) (k : ℕ) → valid t ≡ true → k < 14 → KnownOf (entryAt t k .own) × KnownOf (entryAt t k .peer)
 
--- all that a message gets but the table: verdict, reply, what is shown and the cause
+-- all that a message gets but the table: verdict, reply, what is shown and the cause, and so all that C gets of it
 abbrev pub SameButTable : Outcome → Outcome → Type 0
 SameButTable o q =
-    (o .code ≡ q .code) × ((o .written ≡ q .written) × ((o .buffer ≡ q .buffer) × ((o .shown ≡ q .shown) × (o .cause ≡ q .cause))))
+    (o .code ≡ q .code)
+    × ((o .written ≡ q .written)
+    × ((o .buffer ≡ q .buffer) × ((o .shown ≡ q .shown) × ((o .cause ≡ q .cause) × ((octets : ℕ) → receivedOf octets o ≡ receivedOf octets q)))))
 
 -- another sound table in which the message's transaction is open if it is here
 abbrev pub AlsoThere : List ℕ → List ℕ → List ℕ → Type 0
