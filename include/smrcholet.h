@@ -29,6 +29,9 @@ extern "C" {
 #define SMR_REPLY 12
 /* No message that is sent is longer. */
 #define SMR_MESSAGE 255
+/* What smr_batch gives for each record: verdict, reply length, then the reply
+ * filled up with zeros to SMR_REPLY. */
+#define SMR_SLOT 14
 /* Room for every text that smr_receive shows, and for its lines. */
 #define SMR_CHARACTERS 182
 #define SMR_LINE_OCTETS 18
@@ -56,6 +59,8 @@ extern "C" {
 #define SMR_LONG_MESSAGE 26   /* the message would pass 255 octets */
 #define SMR_SHORT_BUFFER 27   /* the buffer is too short */
 #define SMR_DAMAGED 28        /* the table is damaged, or not SMR_TABLE long */
+#define SMR_BAD_RECORD 30     /* batch: a zero or cut record */
+#define SMR_SHORT_OUTPUT 31   /* batch: fewer than SMR_SLOT octets a record */
 #define SMR_OTHER_SCHEME 40   /* cells: the coding scheme is not 0F */
 #define SMR_SHORT_TEXT 41     /* cells: text or lines too short */
 
@@ -180,6 +185,11 @@ typedef struct {
 } smr_called;
 
 typedef struct {
+    uint8_t code; /* 0, or the refusal 28, 30 or 31 */
+    size_t slots; /* how many slots are written; 0 if refused */
+} smr_batched;
+
+typedef struct {
     uint8_t code;      /* 0, or the refusal, 40 or 41 */
     size_t characters; /* written to text */
     size_t lines;      /* written to lines, two octets each */
@@ -193,6 +203,16 @@ typedef struct {
 smr_received smr_receive(uint8_t *table, size_t table_length,
                          const uint8_t *message, size_t message_length,
                          uint8_t *reply, size_t reply_length);
+
+/* Recorded messages, fed one by one. A record is a length octet, 1 to 255, and
+ * that many octets; records stand back to back. Record n gets slot n, at octet
+ * SMR_SLOT * n of the output, with what smr_receive gives for its message from
+ * the table that the one before left; what is shown is not handed back. Octets
+ * after the last slot stay. All records are looked at before any is fed, so a
+ * refused batch writes no slot and changes nothing. No records are no fault. */
+smr_batched smr_batch(uint8_t *table, size_t table_length,
+                      const uint8_t *records, size_t records_length,
+                      uint8_t *output, size_t output_length);
 
 /* In the calls below a parameter is one element, with its tag and length; 0
  * octets mean none. A transaction is named by the flag under which its messages

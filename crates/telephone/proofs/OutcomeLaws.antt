@@ -4,6 +4,7 @@ use Prim.Native.Nat.{ℕ, _+_, _*_, _≤_}
 use mathlib.Core.Path.{_≡_, refl, sym, ap}
 use mathlib.Core.List.{List}
 use mathlib.Core.Option.{none}
+use native.Mathlib.Omega.{arith}
 use lib.ListN.{length, take, drop}
 use lib.Seq.{take-append-seam, drop-append-seam}
 use Rattle.octets.specs.Reader.{sound}
@@ -13,7 +14,11 @@ use Rattle.table.specs.Table.{size, entryAt}
 use Rattle.table.specs.Change.{changed, withChange}
 use Rattle.table.proofs.TableLaws.{others-stay}
 use Rattle.deciding.specs.Decision.{Decision, silent, withCause, withReject, onReject, released, taken}
-use Rattle.deciding.specs.Steps.{pickedEntry}
+use Rattle.components.specs.Component.{reject}
+use Rattle.components.specs.Written.{componentOctets}
+use Rattle.messages.specs.Layout.{releaseFacility}
+use Rattle.writing.proofs.WriteLaws.{reject-octets, reject-bound}
+use Rattle.deciding.specs.Steps.{pickedEntry, replyFirst}
 use Rattle.calling.specs.Calls.{Sending}
 use Rattle.telephone.specs.Outcome.{untouched}
 use Rattle.telephone.specs.Receive.{sentBy, act}
@@ -26,6 +31,20 @@ front-is b x = rw (splice-front b x) (take-append-seam x (drop (length x) b))
 
 pub behind-stays : (b x : List ℕ) → drop (length x) (splice b 0 x) ≡ drop (length x) b
 behind-stays b x = rw (splice-front b x) (drop-append-seam x (drop (length x) b))
+
+-- every reply finds room in twelve octets
+
+facility-length : (first : ℕ) (v : List ℕ) → length (releaseFacility first v) ≡ 4 + length v
+unfolding releaseFacility
+facility-length first v = omega arith
+
+pub sent-room : (m : List ℕ) (d : Decision) → length (sentBy m d) ≤ 12
+sent-room m (silent code) = omega arith
+sent-room m (withCause number) = omega arith
+sent-room m (withReject id tag number) = omega (arith, facility-length (replyFirst m) (componentOctets (reject id tag number)), reject-octets id tag number, reject-bound id)
+sent-room m (onReject shown) = omega arith
+sent-room m (released shown cause) = omega arith
+sent-room m (taken change shown) = omega arith
 
 module _ (t m b : List ℕ) where
   -- verdicts 1, 6 and 7, and the refusals 28 and 27

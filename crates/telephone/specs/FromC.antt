@@ -9,9 +9,11 @@ use Rattle.octets.specs.declared.MaybePart.{MaybePart}
 use Rattle.components.specs.Shows.{Shows}
 use Rattle.showing.specs.Views.{componentView, textView, causeView}
 use Rattle.telephone.specs.Outcome.{Outcome}
+use Rattle.telephone.specs.Batch.{Batch}
 use Rattle.telephone.specs.declared.receive.Acted.{Acted}
 use Rattle.telephone.specs.declared.receive.Received.{Received}
 use Rattle.telephone.specs.declared.calls.Called.{Called}
+use Rattle.telephone.specs.declared.batch.Batched.{Batched}
 
 -- of a received message of n octets
 abbrev pub shownAs : ℕ → ℕ → ℕ → Shows → Option (Taken (List ℕ)) → Received
@@ -36,3 +38,9 @@ withoutCause code written = record { code = code; written = written; cause = May
 
 abbrev pub calledOf : Outcome → Called
 calledOf o = record { code = o .code; value = o .value; written = o .written }
+
+abbrev pub batchedOf : Batch → Batched
+batchedOf b = record { code = b .code; slots = b .slots }
+
+abbrev pub refusedBatch : ℕ → Batched
+refusedBatch code = record { code = code; slots = 0 }

@@ -1,6 +1,9 @@
 pub mod Outcome
 pub mod Receive
 pub mod Calls
+pub mod History
+pub mod Batch
+pub mod Feeding
 pub mod FromC
 pub mod Stands
 pub mod Strings
