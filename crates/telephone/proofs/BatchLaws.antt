@@ -7,11 +7,12 @@ use native.Mathlib.Omega.{arith}
 use native.Mathlib.Numerals.{add-one}
 use lib.ListN.{length, take, drop, set, getD, replicate, length-append, length-drop, length-set, drop-of-length-le}
 use lib.Seq.{drop-drop, drop-set-lt, take-suc-set, append-snoc, getD-drop, take-at, drop-at, paste-zero}
-use borrow.Author.Tests.{le-leb, lt-leb}
+use lib.Dec.{leb}
+use borrow.Author.Tests.{le-leb, lt-leb, leb-true}
 use Rattle.octets.specs.Part.{between}
 use Rattle.octets.specs.Reader.{Answer, fault, sound, Taken, took, andThen}
 use Rattle.octets.specs.Splice.{splice}
-use Rattle.octets.proofs.ReaderLaws.{sound-inj, not-sound, through}
+use Rattle.octets.proofs.ReaderLaws.{sound-inj, not-sound, through, passed}
 use Rattle.octets.proofs.SpliceLaws.{splice-splice, length-splice, whole as wholly}
 use Rattle.records.specs.Records.{badRecord, oneRecord, messagesIn, counted}
 use Rattle.records.proofs.RecordLaws.{record-was, first-is, messages-none, messages-step}
@@ -20,7 +21,7 @@ use Rattle.deciding.specs.Steps.{decide}
 use Rattle.telephone.specs.Outcome.{Outcome}
 use Rattle.telephone.specs.Receive.{sentBy, act, receive}
 use Rattle.telephone.specs.History.{outcomes, tableAfter}
-use Rattle.telephone.specs.Batch.{fed, slotLength, slot, slots, toFeed, batch}
+use Rattle.telephone.specs.Batch.{fed, slotLength, slot, slots, toFeed, feed, batch}
 use Rattle.telephone.specs.Feeding.{IsRecord, CanFeed, FedOutput, FedTable}
 use Rattle.telephone.specs.FromC.{batchedOf, refusedBatch}
 use Rattle.telephone.specs.declared.batch.Batched.{Batched}
@@ -212,3 +213,21 @@ module _ (t s o : List ℕ) where
             counted-row λ row p q.
             let l : slotLength * length row ≤ length o = omega arith in
             rw (v, p, le-leb (slotLength * length row) (length o) l) (ap (λ (k : ℕ). record { code = 0; slots = k }) (sym q), (f row p, g row p))
+
+-- what is fed: a sound table, whole records, a slot for each
+pub to-feed : (t s : List ℕ) (room : ℕ) (row : List (List ℕ)) → toFeed t s room ≡ sound row → (valid t ≡ true) × ((messagesIn s ≡ sound row) × (slotLength * length row ≤ room))
+unfolding toFeed
+to-feed t s room row e =
+    passed (valid t) 28 _ row e λ v f.
+    through (messagesIn s) _ row f λ messages p g.
+    passed (leb (slotLength * length messages) room) 31 _ row g λ h q.
+    rw (← sound-inj q) (v, (p, leb-true (slotLength * length messages) room h))
+
+-- the slots that are told lie within the output
+pub slots-within : (t s o : List ℕ) → slotLength * batch t s o .slots ≤ length o
+unfolding batch
+slots-within t s o = go (toFeed t s (length o)) (λ row e. to-feed t s (length o) row e .1 .1)
+  where
+    go : (found : Answer (List (List ℕ))) → ((row : List (List ℕ)) → found ≡ sound row → slotLength * length row ≤ length o) → slotLength * feed t o found .slots ≤ length o
+    go (fault n) h = omega arith
+    go (sound row) h = h row refl
