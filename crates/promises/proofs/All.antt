@@ -12,7 +12,9 @@ use Rattle.promises.proofs.PasswordCases.{password-cases}
 use Rattle.promises.proofs.NeverDamaged.{never-damaged}
 use Rattle.promises.proofs.Four.{four}
 use Rattle.promises.proofs.FourCases.{four-cases}
+use Rattle.promises.proofs.Morning.{morning}
+use Rattle.promises.proofs.MorningCases.{morning-cases}
 use Rattle.promises.proofs.Felt.{felt-holds}
 
 pub all : All
-all = (demand-1, (demand-2, (demand-3, (stands, (exact, (determined, (worked, (w1-received, (editions, (error-cases, (password-cases, (never-damaged, (four, (four-cases, felt-holds))))))))))))))
+all = (demand-1, (demand-2, (demand-3, (stands, (exact, (determined, (worked, (w1-received, (editions, (error-cases, (password-cases, (never-damaged, (four, (four-cases, (morning, (morning-cases, felt-holds))))))))))))))))

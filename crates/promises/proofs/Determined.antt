@@ -35,11 +35,12 @@ use Rattle.messages.proofs.Determined.{item-determined, type-determined}
 use Rattle.table.proofs.Determined.{named-determined}
 use Rattle.judging.proofs.Determined.{judgement-determined}
 use Rattle.deciding.proofs.Determined.{decision-determined}
+use Rattle.records.proofs.Determined.{record-determined, count-determined}
 use Rattle.calling.proofs.Determined.{call-determined}
 use Rattle.calling.specs.Calls.{Sending}
 use Rattle.calling.specs.Seen.{DecidesCall}
 use Rattle.octets.specs.OneAnswer.{OneAnswer, Exact}
-use Rattle.promises.specs.Determined.{Elements, Parameters, InPlaces, Components, Messages, Transactions, Decisions, Determined}
+use Rattle.promises.specs.Determined.{Elements, Parameters, InPlaces, Components, Messages, Transactions, Decisions, Recorded, Determined}
 
 pub exact : Exact
 exact A definition r q e f = e ∙ sym f
@@ -185,5 +186,8 @@ decisions = (
   ),
 )
 
+recorded : Recorded
+recorded = (λ s. by-saying _ _ _ (record-determined s), λ s. by-meaning _ _ count-determined)
+
 pub determined : Determined
-determined = (elements, (parameters, (in-places, (components, (messages, (transactions, decisions))))))
+determined = (elements, (parameters, (in-places, (components, (messages, (transactions, (decisions, recorded)))))))

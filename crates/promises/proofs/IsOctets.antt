@@ -12,11 +12,11 @@ use Rattle.components.specs.Component.{parameterOf, invokeTag, resultTag}
 use Rattle.components.specs.LaterEdition.{Encloses, LaterParameter, LaterFacility, inInvoke, inResult}
 use Rattle.promises.specs.LaterEdition.{LaterMessage, inRegister, inFacility, inRelease, IsOctets}
 
-octets-front : (s t : List ℕ) → Octets (s ++ t) → Octets s
+pub octets-front : (s t : List ℕ) → Octets (s ++ t) → Octets s
 octets-front [] t h = tt
 octets-front (a ∷ s) t h = (h .0, octets-front s t (h .1))
 
-octets-behind : (s t : List ℕ) → Octets (s ++ t) → Octets t
+pub octets-behind : (s t : List ℕ) → Octets (s ++ t) → Octets t
 octets-behind [] t h = h
 octets-behind (a ∷ s) t h = octets-behind s t (h .1)
 

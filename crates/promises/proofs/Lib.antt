@@ -3,6 +3,7 @@ mod CallFacts
 mod Silence
 mod Listed
 mod RejectBack
+mod TableOctets
 mod Reached
 mod ShownWalk
 mod FourDigits
@@ -29,5 +30,7 @@ pub mod Apart
 pub mod WhatWaits
 pub mod Four
 pub mod FourCases
+pub mod Morning
+pub mod MorningCases
 pub mod Felt
 pub mod All

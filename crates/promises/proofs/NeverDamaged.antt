@@ -8,8 +8,8 @@ use lib.ListN.{length}
 use Rattle.octets.specs.Octets.{Octets}
 use Rattle.octets.specs.Reader.{Answer, fault, sound}
 use Rattle.table.specs.Table.{closed, entryAt, named, lowestClosed, valid, withEntry}
-use Rattle.table.specs.Change.{closes}
-use Rattle.table.proofs.ChangeLaws.{change-valid, closes-holds}
+use Rattle.table.specs.Change.{Change, closes, withChange, CanChange}
+use Rattle.table.proofs.ChangeLaws.{SaidIn, change-valid, closes-holds}
 use Rattle.deciding.specs.Decision.{Decision, silent, withCause, withReject, onReject, released, taken}
 use Rattle.deciding.specs.Steps.{pickedEntry, decide}
 use Rattle.deciding.specs.Seen.{Ready, Keeps}
@@ -20,25 +20,36 @@ use Rattle.telephone.specs.Calls.{callOutcome, noValue, begin, invokeWithin, re
 use Rattle.telephone.proofs.Paths.{entry-there, closes-is}
 use Rattle.promises.proofs.Silence.{isLoud, loud-ready}
 use Rattle.promises.proofs.RejectBack.{Rejects, decide-rejects}
+use Rattle.promises.proofs.TableOctets.{change-octets}
 use Rattle.promises.proofs.CallFacts.{Fine, fine-begin, fine-invoke, fine-result, fine-error, fine-release}
 use Rattle.promises.specs.NeverDamaged.{NeverDamaged}
 
-module _ (t m b : List ℕ) (o : Octets t) where
-  closed-valid : Ready t m (length b) → valid (withEntry t (pickedEntry m) closed) ≡ true
-  closed-valid r =
-      let w = entry-there t m (length b) r in
-      rw (← closes-is t (pickedEntry m)) (change-valid t (pickedEntry m) closes o tt (w .0, (w .1, closes-holds (entryAt t (pickedEntry m)))))
+abbrev pub SoundOctets : List ℕ → Type 0
+SoundOctets t = (valid t ≡ true) × Octets t
 
-  act-valid : (d : Decision) → valid t ≡ true → (isLoud d ≡ true → Ready t m (length b)) → Keeps (entryAt t (pickedEntry m)) d → Rejects d → valid (act t m b d .table) ≡ true
+module _ (t m b : List ℕ) (o : Octets t) where
+  changed-sound : (c : Change) → SaidIn c → CanChange t (pickedEntry m) c → SoundOctets (withChange t (pickedEntry m) c)
+  changed-sound c s h = (change-valid t (pickedEntry m) c o s h, change-octets t (pickedEntry m) c o s h)
+
+  closed-sound : Ready t m (length b) → SoundOctets (withEntry t (pickedEntry m) closed)
+  closed-sound r =
+      let w = entry-there t m (length b) r in
+      rw (← closes-is t (pickedEntry m)) (changed-sound closes tt (w .0, (w .1, closes-holds (entryAt t (pickedEntry m)))))
+
+  act-sound : (d : Decision) → valid t ≡ true → (isLoud d ≡ true → Ready t m (length b)) → Keeps (entryAt t (pickedEntry m)) d → Rejects d → SoundOctets (act t m b d .table)
   unfolding act
-  act-valid (silent code) v r h s = v
-  act-valid (withCause n) v r h s = closed-valid (r refl)
-  act-valid (withReject id tag n) v r h s = closed-valid (r refl)
-  act-valid (onReject shown) v r h s = closed-valid (r refl)
-  act-valid (released shown cause) v r h s = closed-valid (r refl)
-  act-valid (taken change shown) v r h s =
+  act-sound (silent code) v r h s = (v, o)
+  act-sound (withCause n) v r h s = closed-sound (r refl)
+  act-sound (withReject id tag n) v r h s = closed-sound (r refl)
+  act-sound (onReject shown) v r h s = closed-sound (r refl)
+  act-sound (released shown cause) v r h s = closed-sound (r refl)
+  act-sound (taken change shown) v r h s =
       let w = entry-there t m (length b) (r refl) in
-      change-valid t (pickedEntry m) change o s (w .0, (w .1, h .0))
+      changed-sound change s (w .0, (w .1, h .0))
+
+  pub receive-sound : Octets m → valid t ≡ true → SoundOctets (receive t m b .table)
+  unfolding receive
+  receive-sound q v = let n = length b in act-sound (decide t m n) v (loud-ready t m n) (decide-keeps t m n) (decide-rejects t m n q)
 
 called-valid : (t b : List ℕ) (which : Option ℕ) (said : Type 0) (f : Sending → ℕ) (o : Answer Sending) → Octets t → said → valid t ≡ true → Fine t (length b) which said o
     → valid (callOutcome t b f o .table) ≡ true
@@ -49,7 +60,7 @@ pub never-damaged : NeverDamaged
 unfolding receive begin invokeWithin result error release
 never-damaged t m b p flag value operation code id o q i v =
     let n = length b in (
-      act-valid t m b o (decide t m n) v (loud-ready t m n) (decide-keeps t m n) (decide-rejects t m n q),
+      receive-sound t m b o q v .0,
       (
         called-valid t b (lowestClosed t) _ (λ s. s .entry) (toBegin t n operation id p) o i v (fine-begin t n operation id p),
         (

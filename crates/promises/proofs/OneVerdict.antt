@@ -9,16 +9,13 @@ use lib.IntN.{ℤ}
 use lib.ListN.{length}
 use Rattle.octets.specs.Reader.{Answer, fault, sound}
 use Rattle.octets.proofs.ReaderLaws.{through, passed}
-use Rattle.components.specs.Component.{reject}
-use Rattle.components.specs.Written.{componentOctets}
-use Rattle.messages.specs.Layout.{sentFirst, releaseEmpty as released-octets, releaseFacility}
-use Rattle.writing.proofs.WriteLaws.{reject-octets, reject-bound}
+use Rattle.messages.specs.Layout.{sentFirst, releaseEmpty as released-octets}
 use Rattle.table.specs.Table.{size, closed, named, entryAt, withEntry, valid, lowestClosed, holds}
 use Rattle.table.specs.Change.{closes as toClosed, changed, withChange}
 use Rattle.table.proofs.ChangeLaws.{closes-holds}
 use Rattle.table.proofs.TableLaws.{read-written, open-written, others-stay, fits-at}
 use Rattle.deciding.specs.Decision.{Decision, silent, withCause, withReject, onReject, released, taken}
-use Rattle.deciding.specs.Steps.{pickedEntry, replyFirst, decide}
+use Rattle.deciding.specs.Steps.{pickedEntry, decide}
 use Rattle.deciding.specs.Seen.{Ready, Keeps}
 use Rattle.deciding.proofs.Keeps.{decide-keeps}
 use Rattle.calling.specs.Calls.{Sending, transaction, sendBegin as toBegin, sendInvoke as toInvoke, sendResult, sendError, sendRelease}
@@ -26,7 +23,7 @@ use Rattle.telephone.specs.Receive.{sentBy, act, receive}
 use Rattle.telephone.specs.Calls.{callOutcome, noValue, begin, invokeWithin, result, error, release}
 use Rattle.telephone.proofs.Paths.{entry-there, closes-is, fitting-is}
 use Rattle.telephone.proofs.Shown.{some-inj}
-use Rattle.telephone.proofs.OutcomeLaws.{front-is, behind-stays, silent-untouched, others-kept, call-others}
+use Rattle.telephone.proofs.OutcomeLaws.{front-is, behind-stays, sent-room, silent-untouched, others-kept, call-others}
 use Rattle.promises.specs.OneVerdict.{Writes, Closes, Verdict, ignored, EveryMessage, CallVerdict, refused, sent, Releases, EveryCall, Demand1}
 use Rattle.promises.specs.OneVerdict as row
 use Rattle.promises.proofs.CallFacts.{Fine, fine-begin, fine-invoke, fine-result, fine-error, fine-release, transaction-is}
@@ -42,13 +39,6 @@ module _ (t m b : List ℕ) where
   writes : (d : Decision) → length (sentBy m d) ≤ length b → Writes b (sentBy m d) (act t m b d)
   unfolding act
   writes d h = record { written = refl; front = front-is b (sentBy m d); behind = behind-stays b (sentBy m d); room = h }
-
-  facility-length : (first : ℕ) (v : List ℕ) → length (releaseFacility first v) ≡ 4 + length v
-  unfolding releaseFacility
-  facility-length first v = omega arith
-
-  reject-room : (first : ℕ) (id : Option ℤ) (tag n : ℕ) → length (releaseFacility first (componentOctets (reject id tag n))) ≤ 12
-  reject-room first id tag n = omega (arith, facility-length first (componentOctets (reject id tag n)), reject-octets id tag n, reject-bound id)
 
   closes : (d : Decision) → size * pickedEntry m + size ≤ length t → act t m b d .table ≡ withEntry t (pickedEntry m) closed → Closes t (pickedEntry m) (act t m b d)
   closes d h e = record { own = ap (λ (x : List ℕ). entryAt x (pickedEntry m)) e ∙ closed-back t (pickedEntry m) h; others = λ j n. others-kept t m b d j h n }
@@ -67,7 +57,7 @@ module _ (t m b : List ℕ) where
   each (withReject id tag n) s l k r =
       let w = r refl in
       let f = room-for w in
-      let x = reject-room (replyFirst m) id tag n in
+      let x = sent-room m (withReject id tag n) in
       row.withReject refl id tag n l (writes (withReject id tag n) (omega arith)) (closes (withReject id tag n) f refl) refl
   each (onReject shown) s l k r =
       let w = r refl in

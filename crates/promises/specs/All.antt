@@ -12,7 +12,9 @@ use Rattle.promises.specs.PasswordCases.{PasswordCases}
 use Rattle.promises.specs.NeverDamaged.{NeverDamaged}
 use Rattle.promises.specs.Four.{Four}
 use Rattle.promises.specs.FourCases.{FourCases}
+use Rattle.promises.specs.Morning.{Morning}
+use Rattle.promises.specs.MorningCases.{MorningCases}
 use Rattle.promises.specs.Felt.{Felt}
 
 abbrev pub All : Type 1
-All = Demand1 × (Demand2 × (Demand3 × (PartsStand × (Exact × (Determined × (Worked × (W1Received × (Editions × (ErrorCases × (PasswordCases × (NeverDamaged × (Four × (FourCases × Felt)))))))))))))
+All = Demand1 × (Demand2 × (Demand3 × (PartsStand × (Exact × (Determined × (Worked × (W1Received × (Editions × (ErrorCases × (PasswordCases × (NeverDamaged × (Four × (FourCases × (Morning × (MorningCases × Felt)))))))))))))))

@@ -1,6 +1,7 @@
 -- 01, "How much the promises say": "from it, equal inputs are proved to give equal outcomes". Each promise is the one that the
 -- function's contract cites.
 use Prim.Native.Nat.{ℕ}
+use mathlib.Core.Path.{_≡_}
 use mathlib.Core.List.{List}
 use lib.IntN.{ℤ}
 use Rattle.octets.specs.OneAnswer.{OneAnswer}
@@ -19,6 +20,9 @@ use Rattle.judging.specs.StepSix.{Judged}
 use Rattle.judging.specs.Seen.{Judges, JudgesError}
 use Rattle.deciding.specs.Decision.{Decision}
 use Rattle.deciding.specs.Seen.{Decides}
+use Rattle.records.specs.Records.{counted}
+use Rattle.records.specs.Seen.{ReadsRecord, countSeen}
+use Rattle.records.specs.declared.Count.{Count}
 use Rattle.calling.specs.Seen.{DecidesBegin, DecidesInvoke, DecidesResult, DecidesError, DecidesRelease}
 
 -- every function whose answer is an enum or a struct of places, crate by crate
@@ -70,5 +74,8 @@ Decisions =
     × (((table p : List ℕ) (room flag value code : ℕ) (id : ℤ) → OneAnswer (DecidesError table room flag value id code p))
     × ((table : List ℕ) (room flag value : ℕ) → OneAnswer (DecidesRelease table room flag value))))))
 
+abbrev pub Recorded : Type 0
+Recorded = ((s : List ℕ) → OneAnswer (ReadsRecord s)) × ((s : List ℕ) → OneAnswer (λ (r : Count). countSeen r ≡ counted s))
+
 abbrev pub Determined : Type 0
-Determined = Elements × (Parameters × (InPlaces × (Components × (Messages × (Transactions × Decisions)))))
+Determined = Elements × (Parameters × (InPlaces × (Components × (Messages × (Transactions × (Decisions × Recorded))))))

@@ -15,5 +15,7 @@ pub mod PasswordCases
 pub mod NeverDamaged
 pub mod Four
 pub mod FourCases
+pub mod Morning
+pub mod MorningCases
 pub mod Felt
 pub mod All

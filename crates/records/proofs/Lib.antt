@@ -1,2 +1,3 @@
 pub mod RecordLaws
 mod Paths
+pub mod Determined

@@ -1,13 +1,14 @@
 -- Records: what one holds is what was written, and of a row the first is read, then those behind it.
 use Prim.Native.Nat.{ℕ, zero, suc, _+_, _≤_, _<_}
 use mathlib.Core.Path.{_≡_, refl, sym, ap, _∙_}
-use mathlib.Core.List.{List, [], _∷_, _++_, append-assoc}
+use mathlib.Core.List.{List, [], _∷_, _++_, append-assoc, append-nil}
 use mathlib.Core.Bool.{Bool, true, not}
 use native.Mathlib.Omega.{arith}
 use lib.ListN.{length, length-append}
 use lib.Dec.{eqb}
 use borrow.Author.Tests.{ne-eqb, not-true, eqb-false}
-use Rattle.octets.specs.Reader.{Answer, fault, sound, Taken, took, andThen, front, isEmpty}
+use Rattle.octets.specs.Reader.{Answer, fault, sound, Taken, took, andThen, octet, front, isEmpty}
+use Rattle.octets.proofs.FaultLaws.{Faults, then-faults, check-faults, cond-faults, octet-faults, front-faults}
 use Rattle.octets.proofs.ReaderLaws.{sound-inj, not-sound, through, passed, front-back, front-was}
 use Rattle.records.specs.Records.{badRecord, oneRecord, messagesBy, messagesIn, counted, recordsOf}
 
@@ -139,3 +140,29 @@ first-is s row h e = go (oneRecord s) refl
     go : (o : Answer (Taken (List ℕ))) → oneRecord s ≡ o → (g : Taken (List ℕ)) × (o ≡ sound g)
     go (fault n) p = not-sound (sym (messages-bad s n h p) ∙ e)
     go (sound g) p = (g, refl)
+
+-- what is written as records reads back
+pub messages-back : (row : List (List ℕ)) → Filled row → messagesIn (recordsOf row) ≡ sound row
+messages-back row h = ap messagesIn (sym (append-nil (recordsOf row))) ∙ messages-append row [] h ∙ rw messages-none (ap sound (append-nil row))
+
+-- the only fault is a bad record
+
+abbrev IsBad : ℕ → Type 0
+IsBad n = n ≡ badRecord
+
+record-fault : (s : List ℕ) → Faults IsBad (oneRecord s)
+unfolding oneRecord
+record-fault s =
+    then-faults IsBad (octet badRecord s) _ (octet-faults IsBad badRecord s refl) λ g.
+    check-faults IsBad (not (eqb (g .value) 0)) badRecord _ refl (front-faults IsBad badRecord (g .value) (g .rest) refl)
+
+by-fault : (f : ℕ) (s : List ℕ) → Faults IsBad (messagesBy f s)
+unfolding messagesBy
+by-fault zero s = cond-faults IsBad (isEmpty s) (sound []) (fault badRecord) tt refl
+by-fault (suc f) s =
+    cond-faults IsBad (isEmpty s) (sound []) _ tt
+    (then-faults IsBad (oneRecord s) _ (record-fault s) λ g. then-faults IsBad (messagesBy f (g .rest)) _ (by-fault f (g .rest)) λ others. tt)
+
+pub messages-fault : (s : List ℕ) → Faults (λ n. n ≡ badRecord) (messagesIn s)
+unfolding messagesIn
+messages-fault s = by-fault (length s) s

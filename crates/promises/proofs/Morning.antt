@@ -1,0 +1,297 @@
+-- A batch is its messages fed one by one.
+use Prim.Native.Nat.{ℕ, zero, suc, _+_, _-_, _*_, _≤_, _<_}
+use mathlib.Core.Path.{_≡_, refl, sym, ap, subst, _∙_}
+use mathlib.Core.List.{List, [], _∷_, _++_, append-assoc}
+use mathlib.Core.Bool.{Bool, true, false, _||_, false≢true}
+use native.Mathlib.Omega.{arith}
+use lib.ListN.{length, getD, take, drop, replicate, length-append, length-drop}
+use lib.Seq.{drop-drop}
+use lib.Dec.{leb, eqb}
+use borrow.Author.Tests.{le-leb, lt-leb, leb-true, leb-false}
+use Rattle.octets.specs.Octets.{Octets}
+use Rattle.octets.specs.Reader.{Answer, fault, sound, andThen, check}
+use Rattle.octets.specs.Splice.{splice}
+use Rattle.octets.proofs.FaultLaws.{Faults, then-faults, check-faults}
+use Rattle.octets.proofs.ReaderLaws.{sound-inj, not-sound, through}
+use Rattle.octets.proofs.SpliceLaws.{splice-front, length-splice}
+use Rattle.records.specs.Records.{messagesIn, recordsOf}
+use Rattle.records.proofs.RecordLaws.{Filled, messages-append, messages-back, messages-were, messages-fault}
+use Rattle.messages.specs.Layout.{discriminator, value, flag, facilityType, registerType}
+use Rattle.table.specs.Table.{entryAt, valid}
+use Rattle.deciding.specs.Decision.{Decision, silent, withCause, withReject, onReject, released, taken}
+use Rattle.deciding.specs.Steps.{firstOctet, pickedEntry, onRelease, fourToSix, decide}
+use Rattle.deciding.proofs.StepLaws.{by-type, further, decide-further}
+use Rattle.telephone.specs.Outcome.{Outcome}
+use Rattle.telephone.specs.Receive.{verdictOf, sentBy, act, receive}
+use Rattle.telephone.specs.History.{outcomes, tableAfter}
+use Rattle.telephone.specs.Batch.{fed, slotLength, slot, slots, Batch, toFeed, feed, batch}
+use Rattle.telephone.proofs.OutcomeLaws.{front-is, behind-stays, sent-room}
+use Rattle.telephone.proofs.BatchLaws.{slots-length, to-feed}
+use Rattle.promises.specs.Morning.{Fit, unchanged, Answered, damaged, bad, noRoom, isFed, EveryBatch, Lent, receives, messagesOf, Roomy, told, allTold, FedAs, OneByOne, secondly, inOne, TwoAreOne, OneIsTwo, isSlotVerdict, SlotVerdicts, StaysSound, Morning}
+use Rattle.promises.proofs.IsOctets.{octets-front, octets-behind}
+use Rattle.promises.proofs.Silence.{isLoud, four-loud}
+use Rattle.promises.proofs.NeverDamaged.{SoundOctets, receive-sound}
+
+-- every batch
+
+fit-filled : (row : List (List ℕ)) → Fit row → Filled row
+fit-filled [] h = tt
+fit-filled (m ∷ row) h = (h .0 .0, fit-filled row (h .1))
+
+filled-fit : (row : List (List ℕ)) → Octets (recordsOf row) → Filled row → Fit row
+filled-fit [] o h = tt
+filled-fit (m ∷ row) o h = let l = o .0 in ((h .0, omega arith), filled-fit row (octets-behind m (recordsOf row) (o .1)) (h .1))
+
+module _ (t s o : List ℕ) where
+  answers : (found : Answer (List (List ℕ))) → toFeed t s (length o) ≡ found → batch t s o ≡ feed t o found
+  unfolding batch
+  answers found e = ap (feed t o) e
+
+  damaged-is : valid t ≡ false → toFeed t s (length o) ≡ fault 28
+  unfolding toFeed
+  damaged-is v = rw v
+
+  module _ (v : valid t ≡ true) where
+    bad-is : (n : ℕ) → messagesIn s ≡ fault n → toFeed t s (length o) ≡ fault n
+    unfolding toFeed
+    bad-is n e = rw (v, e)
+
+    room-is : (row : List (List ℕ)) → messagesIn s ≡ sound row → length o < 14 * length row → toFeed t s (length o) ≡ fault 31
+    unfolding toFeed
+    room-is row e h = rw (v, e, lt-leb (14 * length row) (length o) h)
+
+    fed-is : (row : List (List ℕ)) → messagesIn s ≡ sound row → 14 * length row ≤ length o → toFeed t s (length o) ≡ sound row
+    unfolding toFeed
+    fed-is row e h = rw (v, e, le-leb (14 * length row) (length o) h)
+
+  every : Octets s → Answered t s o (batch t s o)
+  every q = by-table (valid t) refl
+    where
+      by-room : valid t ≡ true → (row : List (List ℕ)) → messagesIn s ≡ sound row → (b : Bool) → leb (14 * length row) (length o) ≡ b → Answered t s o (batch t s o)
+      by-room v row e b l =
+          let w = messages-were s row e in
+          let f = filled-fit row (subst Octets (w .0) q) (w .1) in
+          fits b l w f
+        where
+          fits : (c : Bool) → leb (14 * length row) (length o) ≡ c → (s ≡ recordsOf row) × Filled row → Fit row → Answered t s o (batch t s o)
+          fits true l w f = isFed v row f (w .0) (leb-true _ _ l) (ap (λ (x : Batch). x .code) (answers (sound row) (fed-is v row e (leb-true _ _ l))))
+          fits false l w f = noRoom v row f (w .0) (leb-false _ _ l) (answers (fault 31) (room-is v row e (leb-false _ _ l)))
+
+      by-records : valid t ≡ true → (found : Answer (List (List ℕ))) → messagesIn s ≡ found → Faults (λ n. n ≡ 30) found → Answered t s o (batch t s o)
+      by-records v (fault n) e h =
+          bad v (λ row f r. not-sound (sym (rw h at e) ∙ ap messagesIn r ∙ messages-back row (fit-filled row f))) (answers (fault 30) (bad-is v 30 (rw h at e)))
+      by-records v (sound row) e h = by-room v row e (leb (14 * length row) (length o)) refl
+
+      by-table : (b : Bool) → valid t ≡ b → Answered t s o (batch t s o)
+      by-table false v = damaged v (answers (fault 28) (damaged-is v))
+      by-table true v = by-records v (messagesIn s) refl (messages-fault s)
+
+pub every-batch : EveryBatch
+every-batch t s o q = every t s o q
+
+-- a reply doesn't depend on its buffer, if that has room
+
+same-decision : (t m : List ℕ) (room : ℕ) → 12 ≤ room → decide t m room ≡ decide t m 12
+unfolding decide
+same-decision t m room h = rw (le-leb 12 room h)
+
+drop-zeros : (k n : ℕ) → k ≤ n → drop {A = ℕ} k (replicate n 0) ≡ replicate (n - k) 0
+drop-zeros zero n h = let e : n - 0 ≡ n = omega arith in rw e
+drop-zeros (suc k) zero h = absurd (omega arith)
+drop-zeros (suc k) (suc n) h = let e : suc n - suc k ≡ n - k = omega arith in rw e (drop-zeros k n (omega arith))
+
+module _ (t m b : List ℕ) where
+  acted : (d : Decision) → (act t m b d .table ≡ act t m (replicate 12 0) d .table) × (told (act t m b d) ≡ slot (act t m (replicate 12 0) d))
+  unfolding act
+  acted d =
+      let x = sentBy m d in (
+        refl,
+        ap (λ (l : List ℕ). verdictOf d ∷ length x ∷ l)
+            (ap (λ (l : List ℕ). l ++ replicate (12 - length x) 0) (front-is b x)
+            ∙ ap (λ (l : List ℕ). x ++ l) (sym (drop-zeros (length x) 12 (sent-room m d)))
+            ∙ sym (splice-front (replicate 12 0) x)),
+      )
+
+  agrees : 12 ≤ length b → (receive t m b .table ≡ fed t m .table) × (told (receive t m b) ≡ slot (fed t m))
+  unfolding receive fed
+  agrees h = rw (same-decision t m (length b) h) (acted (decide t m 12))
+
+all-agree : (t : List ℕ) (row : List Lent) → Roomy row → (tableAfter receives t row ≡ tableAfter fed t (messagesOf row)) × (allTold (outcomes receives t row) ≡ slots (outcomes fed t (messagesOf row)))
+unfolding outcomes tableAfter slots
+all-agree t [] h = (refl, refl)
+all-agree t (l ∷ row) h =
+    let a = agrees t (l .message) (l .buffer) (h .0) in
+    let b = all-agree (fed t (l .message) .table) row (h .1) in
+    let y = ap (λ (x : List ℕ). allTold (outcomes receives x row)) (a .0) ∙ b .1 in
+    (ap (λ (x : List ℕ). tableAfter receives x row) (a .0) ∙ b .0, λ i. a .1 i ++ y i)
+
+same-length : (row : List Lent) → length (messagesOf row) ≡ length row
+same-length [] = refl
+same-length (l ∷ row) = ap suc (same-length row)
+
+pub one-by-one : OneByOne
+one-by-one t o row v f r h =
+    let messages = messagesOf row in
+    let n : length messages ≡ length row = same-length row in
+    let s = slots (outcomes fed t messages) in
+    let k : length s ≡ 14 * length row = slots-length t messages ∙ ap (λ (j : ℕ). 14 * j) n in
+    let a = all-agree t row r in
+    let e : batch t (recordsOf messages) o ≡ feed t o (sound messages) = answers t (recordsOf messages) o (sound messages) (fed-is t (recordsOf messages) o v messages (messages-back messages (fit-filled messages f)) (rw n h)) in
+    rw e
+    record {
+      code = refl;
+      slots = n;
+      front = rw (← k, a .1) (front-is o s);
+      behind = rw (← k) (behind-stays o s);
+      tableIs = sym (a .0);
+    }
+
+-- one row behind another
+
+module _ {Step : Type 0} (does : List ℕ → Step → Outcome) where
+  table-append : (t : List ℕ) (a b : List Step) → tableAfter does t (a ++ b) ≡ tableAfter does (tableAfter does t a) b
+  unfolding tableAfter
+  table-append t [] b = refl
+  table-append t (x ∷ a) b = table-append (does t x .table) a b
+
+  outcomes-append : (t : List ℕ) (a b : List Step) → outcomes does t (a ++ b) ≡ outcomes does t a ++ outcomes does (tableAfter does t a) b
+  unfolding outcomes tableAfter
+  outcomes-append t [] b = refl
+  outcomes-append t (x ∷ a) b = ap (λ (l : List Outcome). does t x ∷ l) (outcomes-append (does t x .table) a b)
+
+slots-append : (a b : List Outcome) → slots (a ++ b) ≡ slots a ++ slots b
+unfolding slots
+slots-append [] b = refl
+slots-append (x ∷ a) b = ap (λ (l : List ℕ). slot x ++ l) (slots-append a b) ∙ sym (append-assoc (slot x) (slots a) (slots b))
+
+-- a batch that is fed has its messages
+numbered : (t s : List ℕ) (room : ℕ) → Faults (λ n. n ≡ 0 → ⊥) (toFeed t s room)
+unfolding toFeed
+numbered t s room =
+    check-faults (λ n. n ≡ 0 → ⊥) (valid t) 28 _ (λ z. omega arith)
+    (then-faults (λ n. n ≡ 0 → ⊥) (messagesIn s) _ (faulty (messagesIn s) (messages-fault s)) λ row.
+    check-faults (λ n. n ≡ 0 → ⊥) (leb (14 * length row) room) 31 _ (λ z. omega arith) tt)
+  where
+    faulty : (found : Answer (List (List ℕ))) → Faults (λ n. n ≡ 30) found → Faults (λ n. n ≡ 0 → ⊥) found
+    faulty (fault n) h = λ z. omega arith
+    faulty (sound row) h = tt
+
+fed-row : (C : Type 0) (t s o : List ℕ) → batch t s o .code ≡ 0 → ((row : List (List ℕ)) → toFeed t s (length o) ≡ sound row → C) → C
+unfolding batch
+fed-row C t s o e next = go (toFeed t s (length o)) refl (numbered t s (length o)) e
+  where
+    go : (found : Answer (List (List ℕ))) → toFeed t s (length o) ≡ found → Faults (λ n. n ≡ 0 → ⊥) found → feed t o found .code ≡ 0 → C
+    go (fault n) q h z = absurd (h z)
+    go (sound row) q h z = next row q
+
+-- what the second batch is lent
+module _ (t o : List ℕ) (one : List (List ℕ)) (h : 14 * length one ≤ length o) where
+  abbrev behindSlots : List ℕ
+  behindSlots = drop (14 * length one) (splice o 0 (slots (outcomes fed t one)))
+
+  behind-length : length behindSlots ≡ length o - 14 * length one
+  behind-length =
+      let k = slots-length t one in
+      length-drop (14 * length one) (splice o 0 (slots (outcomes fed t one))) ∙ ap (λ (n : ℕ). n - 14 * length one) (length-splice o 0 (slots (outcomes fed t one)) (omega arith))
+
+  one-output : (two : List (List ℕ))
+      → splice o 0 (slots (outcomes fed t (one ++ two)))
+      ≡ take (14 * length one) (splice o 0 (slots (outcomes fed t one))) ++ splice behindSlots 0 (slots (outcomes fed (tableAfter fed t one) two))
+  one-output two =
+      let a = slots (outcomes fed t one) in
+      let b = slots (outcomes fed (tableAfter fed t one) two) in
+      let k : length a ≡ 14 * length one = slots-length t one in
+      let x : slots (outcomes fed t (one ++ two)) ≡ a ++ b = ap slots (outcomes-append fed t one two) ∙ slots-append (outcomes fed t one) (outcomes fed (tableAfter fed t one) two) in
+      let r : a ++ splice (drop (length a) o) 0 b ≡ splice o 0 (a ++ b) =
+      ap (λ (l : List ℕ). a ++ l) (splice-front (drop (length a) o) b ∙ ap (λ (l : List ℕ). b ++ l) (drop-drop (length b) (length a) o))
+      ∙ sym (append-assoc a b (drop (length a + length b) o))
+      ∙ ap (λ (n : ℕ). (a ++ b) ++ drop n o) (sym (length-append a b))
+      ∙ sym (splice-front o (a ++ b)) in
+      rw (← k, x, front-is o a, behind-stays o a) (sym r)
+
+joined : (t first second o : List ℕ) (one two : List (List ℕ)) → toFeed t first (length o) ≡ sound one
+    → toFeed (tableAfter fed t one) second (length (drop (14 * length one) (splice o 0 (slots (outcomes fed t one))))) ≡ sound two
+    → batch t (first ++ second) o
+    ≡ inOne (feed t o (sound one)) (feed (tableAfter fed t one) (drop (14 * length one) (splice o 0 (slots (outcomes fed t one)))) (sound two))
+joined t first second o one two e g =
+    let a = to-feed t first (length o) one e in
+    let b = to-feed (tableAfter fed t one) second _ two g in
+    let l = behind-length t o one (a .1 .1) in
+    let w = messages-were first one (a .1 .0) in
+    let n : length (one ++ two) ≡ length one + length two = length-append one two in
+    let m : messagesIn (first ++ second) ≡ sound (one ++ two) = ap (λ (s : List ℕ). messagesIn (s ++ second)) (w .0) ∙ messages-append one second (w .1) ∙ rw (b .1 .0) refl in
+    let h = b .1 .1 in
+    let u = one-output t o one (a .1 .1) two in
+    let v = table-append fed t one two in
+    answers t (first ++ second) o (sound (one ++ two)) (fed-is t (first ++ second) o (a .0) (one ++ two) m (rw n (omega arith)))
+    ∙ λ i. record { code = 0; slots = n i; output = u i; table = v i }
+
+pub two-are-one : TwoAreOne
+two-are-one t first second o p q =
+    fed-row _ t first o p λ one e.
+    subst (λ (a : Batch). secondly a second .code ≡ 0 → batch t (first ++ second) o ≡ inOne a (secondly a second)) (sym (answers t first o (sound one) e))
+    (λ r.
+    let t′ = tableAfter fed t one in
+    let o′ = drop (14 * length one) (splice o 0 (slots (outcomes fed t one))) in
+    fed-row (batch t (first ++ second) o ≡ inOne (feed t o (sound one)) (batch t′ second o′)) t′ second o′ r λ two g. rw (answers t′ second o′ (sound two) g) (joined t first second o one two e g))
+    q
+
+-- each verdict is one of 01's, and the table stays sound
+
+loud-verdict : (d : Decision) → isLoud d ≡ true → isSlotVerdict (verdictOf d) ≡ true
+loud-verdict (silent code) h = absurd (false≢true h)
+loud-verdict (withCause number) h = refl
+loud-verdict (withReject id tag number) h = refl
+loud-verdict (onReject shown) h = refl
+loud-verdict (released shown cause) h = refl
+loud-verdict (taken change shown) h = refl
+
+further-verdict : (t m : List ℕ) → isSlotVerdict (verdictOf (further t m)) ≡ true
+unfolding onRelease
+further-verdict t m =
+    let e = entryAt t (pickedEntry m) in
+    by-type (λ d. isSlotVerdict (verdictOf d) ≡ true) e (flag (firstOctet m)) (getD m 1 0) (drop 2 m) refl refl refl refl (λ _ _. refl)
+    (λ _ _. loud-verdict (fourToSix e facilityType (drop 2 m)) (four-loud e facilityType (drop 2 m)))
+    (λ _ _. loud-verdict (fourToSix e registerType (drop 2 m)) (four-loud e registerType (drop 2 m)))
+
+slot-verdict : (t m : List ℕ) → valid t ≡ true → length m ≤ 255 → isSlotVerdict (verdictOf (decide t m 12)) ≡ true
+unfolding decide
+slot-verdict t m v h = go (leb 2 (length m)) (eqb (discriminator (firstOctet m)) 11) (eqb (value (firstOctet m)) 7) refl refl refl
+  where
+    l : leb (length m) 255 ≡ true
+    l = le-leb (length m) 255 h
+
+    go : (a b c : Bool) → leb 2 (length m) ≡ a → eqb (discriminator (firstOctet m)) 11 ≡ b → eqb (value (firstOctet m)) 7 ≡ c → isSlotVerdict (verdictOf (decide t m 12)) ≡ true
+    go false b c p q r = rw (v, l, p)
+    go true false c p q r = rw (v, l, p, q)
+    go true true true p q r = rw (v, l, p, q, r)
+    go true true false p q r = rw (decide-further t m 12 (record { table = v; room = refl; most = l; least = p; protocol = q; transaction = r })) (further-verdict t m)
+
+stays : (t : List ℕ) (row : List (List ℕ)) → Octets t → Octets (recordsOf row) → Fit row → valid t ≡ true → SlotVerdicts (outcomes fed t row) × SoundOctets (tableAfter fed t row)
+unfolding outcomes tableAfter fed receive act
+stays t [] o q f v = (tt, (v, o))
+stays t (m ∷ row) o q f v =
+    let s = receive-sound t m (replicate 12 0) o (octets-front m (recordsOf row) (q .1)) v in
+    let w = stays (fed t m .table) row (s .1) (octets-behind m (recordsOf row) (q .1)) (f .1) (s .0) in
+    ((slot-verdict t m v (f .0 .1), w .0), w .1)
+
+pub stays-sound : StaysSound
+stays-sound t row o q f v = let w = stays t row o q f v in (w .0, w .1 .0)
+
+pub one-is-two : OneIsTwo
+one-is-two t second o row x y f c =
+    fed-row _ t (recordsOf row ++ second) o c λ all e.
+    let w = to-feed t (recordsOf row ++ second) (length o) all e in
+    through (messagesIn second) _ all (sym (messages-append row second (fit-filled row f)) ∙ w .1 .0) λ two p q.
+    let n : length row + length two ≡ length all = sym (length-append row two) ∙ ap length (sound-inj q) in
+    let k = w .1 .1 in
+    let h : 14 * length row ≤ length o = omega arith in
+    let l = behind-length t o row h in
+    let t′ = tableAfter fed t row in
+    let o′ = drop (14 * length row) (splice o 0 (slots (outcomes fed t row))) in
+    let b = answers t′ second o′ (sound two) (fed-is t′ second o′ (stays-sound t row x y f (w .0) .1) two p (rw l (omega arith))) in
+    rw (answers t (recordsOf row) o (sound row) (fed-is t (recordsOf row) o (w .0) row (messages-back row (fit-filled row f)) h))
+    (refl, ap (λ (z : Batch). z .code) b)
+
+pub morning : Morning
+morning = (every-batch, (one-by-one, (two-are-one, (one-is-two, stays-sound))))
