@@ -117,17 +117,19 @@ static int read_lent_table(char **words, row *table)
     return 1;
 }
 
+static bool is_batch(const char *call) { return strcmp(call, "batch") == 0; }
+
 /* What a call is lent. */
 typedef struct {
     uint8_t *table, *message, *buffer;
     size_t table_length, message_length, buffer_length;
 } loan;
 
-/* What a call gave, of either kind. */
+/* What a call gave, of each kind; what a batch has written is its slots. */
 typedef struct {
     smr_received got;
     uint8_t value;
-    size_t entry;
+    size_t entry, slots;
     bool kept; /* the table is unchanged */
 } outcome;
 
@@ -164,12 +166,22 @@ static bool same_side(const uint8_t *octets, const char *list)
     return memcmp(octets, wanted, SIDE) == 0;
 }
 
+static bool same_table(const uint8_t *table, const char *entries)
+{
+    uint8_t wanted[SMR_TABLE];
+    read_table(entries, wanted);
+    return memcmp(table, wanted, SMR_TABLE) == 0;
+}
+
 static bool holds(const char *fact, const char *wanted, const outcome *o, const loan *l)
 {
     const smr_received *r = &o->got;
     const uint8_t *message = l->message, *image = l->table + ENTRY * o->entry;
     if (strcmp(fact, "reply") == 0) return same_octets(l->buffer, r->written, wanted);
     if (strcmp(fact, "length") == 0) return r->written == (size_t)atoi(wanted);
+    if (strcmp(fact, "slots") == 0) return o->slots == (size_t)atoi(wanted);
+    if (strcmp(fact, "output") == 0) return same_octets(l->buffer, l->buffer_length, wanted);
+    if (strcmp(fact, "table") == 0) return same_table(l->table, wanted);
     if (strcmp(fact, "entry") == 0) return same_octets(image, ENTRY, wanted);
     if (strcmp(fact, "open") == 0) return is_word(image[0] != 0, wanted);
     if (strcmp(fact, "own") == 0) return same_side(image + 1, wanted);
@@ -206,11 +218,27 @@ static bool holds(const char *fact, const char *wanted, const outcome *o, const 
     return false;
 }
 
+/* A batch; its entry is that of the first record. */
+static outcome run_batch(const loan *l)
+{
+    outcome o;
+    memset(&o, 0, sizeof o);
+    smr_batched b = smr_batch(l->table, l->table_length, l->message, l->message_length, l->buffer,
+                              l->buffer_length);
+    o.got.code = b.code;
+    o.got.written = SMR_SLOT * b.slots;
+    o.slots = b.slots;
+    if (l->message_length > 1)
+        o.entry = entry_at(SMR_FLAG(l->message[1]), SMR_VALUE(l->message[1])) % ENTRIES;
+    return o;
+}
+
 /* The call of this name, with its numbers. */
 static outcome run(const char *call, const int *n, const loan *l)
 {
     outcome o;
     smr_called c;
+    if (is_batch(call)) return run_batch(l);
     memset(&o, 0, sizeof o);
     if (strcmp(call, "receive") == 0) {
         o.got = smr_receive(l->table, l->table_length, l->message, l->message_length, l->buffer,
@@ -245,22 +273,33 @@ static outcome run(const char *call, const int *n, const loan *l)
 
 static int numbers_of(const char *call)
 {
-    if (strcmp(call, "receive") == 0) return 0;
+    if (strcmp(call, "receive") == 0 || is_batch(call)) return 0;
     if (strcmp(call, "begin") == 0 || strcmp(call, "release") == 0) return 2;
     return strcmp(call, "result") == 0 ? 3 : 4;
 }
 
-/* What every call leaves alone: octets behind what is written, other entries,
- * and all of it where nothing may be sent or changed. And no call damages a table. */
-static void check_rest(const char *name, const outcome *o, bool received, const uint8_t *old,
+/* A slot has a verdict, 6 not among them, and zeros behind its reply. */
+static bool is_slot(const uint8_t *octets)
+{
+    for (size_t i = 2 + octets[1]; i < SMR_SLOT; i++)
+        if (octets[i] != 0) return false;
+    return octets[1] <= SMR_REPLY && octets[0] <= SMR_OTHER_PROTOCOL && octets[0] != SMR_TOO_LONG;
+}
+
+/* What every call leaves alone: octets behind what is written, other entries, which a batch
+ * may change too, and all of it where nothing may be sent or changed. And no call damages a
+ * table. */
+static void check_rest(const char *name, const char *call, const outcome *o, const uint8_t *old,
                        const loan *l)
 {
-    bool others = true;
+    bool others = true, received = strcmp(call, "receive") == 0;
     check(is_marked(l->buffer, o->got.written, l->buffer_length), name,
           "octets behind the message");
     for (size_t i = 0; i < l->table_length; i++)
         others = others && (i / ENTRY == o->entry || old[i] == l->table[i]);
-    check(others, name, "another entry");
+    if (!is_batch(call)) check(others, name, "another entry");
+    for (size_t i = 0; i < o->slots && SMR_SLOT * i + SMR_SLOT <= l->buffer_length; i++)
+        check(is_slot(l->buffer + SMR_SLOT * i), name, "a whole slot");
     if (o->got.code >= 20 || (received && (o->got.code == 1 || o->got.code >= 6)))
         check(o->kept && o->got.written == 0 && o->got.shown.kind == SMR_NOTHING, name,
               "nothing may change");
@@ -297,7 +336,9 @@ static void run_case(char *line, int before)
     loan l = {.buffer_length = 300};
     int count = 0, at, n[4] = {0, 0, 0, 0};
     for (char *w = strtok(NULL, " "); w != NULL && strcmp(w, "->") != 0; w = strtok(NULL, " ")) {
+        if (count == 0 && is_batch(w)) l.buffer_length = 60;
         if (sscanf(w, "buf=%zu", &l.buffer_length) == 1) continue;
+        if (sscanf(w, "out=%zu", &l.buffer_length) == 1) continue;
         if (count < 63) words[count++] = w;
     }
     at = 1 + read_lent_table(words + 1, &old);
@@ -314,7 +355,7 @@ static void run_case(char *line, int before)
     outcome o = run(words[0], n, &l);
     o.kept = memcmp(old.octets, l.table, old.length) == 0;
     check_facts(name, facts, &o, &l);
-    check_rest(name, &o, strcmp(words[0], "receive") == 0, old.octets, &l);
+    check_rest(name, words[0], &o, old.octets, &l);
 }
 
 int main(int argc, char **argv)

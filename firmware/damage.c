@@ -2,9 +2,9 @@
  * by the papers. */
 #include "chance.h"
 #include "check.h"
+#include "drawn.h"
 #include "image.h"
 #include "lent.h"
-#include "lists.h"
 #include "spoken.h"
 #include "talk.h"
 
@@ -13,13 +13,7 @@
 
 enum { DRAWN = 150000, ROOM = 4 };
 
-static const uint8_t peers_ask[] = {18, 60, 61};
 static unsigned met[FAULTS];
-
-static uint8_t operation_at(size_t i, bool own)
-{
-    return own ? begun[i % BEGUN] : peers_ask[i % sizeof peers_ask];
-}
 
 /* So many questions of entry k; in entry 0 the last of four has the id 0, so that the place
  * is sound without its operation too. */
@@ -88,10 +82,10 @@ static void test_each_octet(bool full)
     }
 }
 
-/* The code of one of the other five calls. */
+/* The code of one of the other six calls. */
 static uint8_t code_of(int call, uint8_t *table, uint8_t *out)
 {
-    static const uint8_t empty[] = {0x0B, 0x3A, 0x00};
+    static const uint8_t empty[] = {0x0B, 0x3A, 0x00}, record[] = {0x03, 0x0B, 0x3A, 0x00};
     spoken p = asked(59);
     switch (call) {
     case 0: return smr_receive(table, SMR_TABLE, empty, sizeof empty, out, SMR_MESSAGE).code;
@@ -99,6 +93,7 @@ static uint8_t code_of(int call, uint8_t *table, uint8_t *out)
     case 2:
         return smr_invoke(table, SMR_TABLE, 0, 0, 59, 1, p.octets, p.length, out, SMR_MESSAGE).code;
     case 3: return smr_result(table, SMR_TABLE, 0, 0, 5, NULL, 0, out, SMR_MESSAGE).code;
+    case 4: return smr_batch(table, SMR_TABLE, record, sizeof record, out, SMR_MESSAGE).code;
     default: return smr_error(table, SMR_TABLE, 0, 0, 5, 34, NULL, 0, out, SMR_MESSAGE).code;
     }
 }
@@ -107,7 +102,7 @@ static uint8_t code_of(int call, uint8_t *table, uint8_t *out)
 static bool all_refuse(const uint8_t *image)
 {
     bool damaged = fault_of(image) != SOUND, agree = true;
-    for (int call = 0; call < 5; call++) {
+    for (int call = 0; call < 6; call++) {
         uint8_t *table = lend(0, SMR_TABLE, call & 1), out[SMR_MESSAGE];
         memcpy(table, image, SMR_TABLE);
         memset(out, MARK, sizeof out);
@@ -116,32 +111,6 @@ static bool all_refuse(const uint8_t *image)
             agree = agree && memcmp(table, image, SMR_TABLE) == 0 && is_marked(out, 0, sizeof out);
     }
     return agree;
-}
-
-/* None to four questions, their ids from a few or from all. */
-static side draw_side(bool own)
-{
-    side to = {.count = 0};
-    for (uint32_t n = random_below(PLACES + 1); n > 0; n--) {
-        int8_t id = (int8_t)random_below(random_below(2) == 0 ? 6 : 256);
-        if (place_of(&to, id) < to.count) continue;
-        add_question(&to, id, operation_at(random_below(21), own));
-    }
-    return to;
-}
-
-/* A sound table by chance, some entries closed. */
-static void draw_table(uint8_t *image)
-{
-    entry entries[ENTRIES];
-    memset(entries, 0, sizeof entries);
-    for (size_t k = 0; k < ENTRIES; k++) {
-        if (random_below(4) == 0) continue;
-        entries[k].open = true;
-        entries[k].own = draw_side(true);
-        entries[k].peers = draw_side(false);
-    }
-    put_table(entries, image);
 }
 
 /* Two octets: an id and its operation. */

@@ -16,6 +16,11 @@ static uint8_t table[SMR_TABLE], buffer[SMR_MESSAGE];
 static const uint8_t *given;
 static size_t given_length;
 
+/* One record of what is given, or a row of many. */
+enum { MANY = 400 };
+static uint8_t records[MANY * (1 + SMR_MESSAGE)], slots[MANY * SMR_SLOT];
+static size_t records_length;
+
 /* 160 octets of text, as one parameter; in an Invoke of 60 in a REGISTER. */
 static uint8_t text[169], menu[182];
 static const uint8_t guidance[] = {0x0A, 0x01, 0x00};
@@ -30,12 +35,15 @@ static uint16_t characters[SMR_CHARACTERS];
 
 static void nothing(void) {}
 static void receive(void) { smr_receive(table, SMR_TABLE, given, given_length, buffer, SMR_REPLY); }
+static void batch(void) { smr_batch(table, SMR_TABLE, records, records_length, slots, sizeof slots); }
 static void begin(void) { smr_begin(table, SMR_TABLE, 59, 1, text, sizeof text, buffer, sizeof buffer); }
 static void invoke(void) { smr_invoke(table, SMR_TABLE, 0, 0, 59, 1, text, sizeof text, buffer, sizeof buffer); }
 static void result(void) { smr_result(table, SMR_TABLE, 0, 0, 5, text, sizeof text, buffer, sizeof buffer); }
 static void error(void) { smr_error(table, SMR_TABLE, 0, 0, 5, 1, guidance, sizeof guidance, buffer, sizeof buffer); }
 static void release(void) { smr_release(table, SMR_TABLE, 0, 0, buffer, sizeof buffer); }
 static void cells(void) { smr_cells(0x0F, string, sizeof string, characters, SMR_CHARACTERS, lines, sizeof lines); }
+
+static size_t larger(size_t a, size_t b) { return a > b ? a : b; }
 
 /* The octets that a call takes of a fresh stack, with these entries in the table. */
 static size_t depth(void (*call)(void), const char *entries)
@@ -59,10 +67,16 @@ static size_t depth_of_cells(void)
     size_t deepest = 0;
     for (int octet = 0; octet < 256; octet++) {
         memset(string, octet, sizeof string);
-        size_t n = depth(cells, "");
-        deepest = n > deepest ? n : deepest;
+        deepest = larger(deepest, depth(cells, ""));
     }
     return deepest;
+}
+
+static void add_record(void)
+{
+    records[records_length++] = (uint8_t)given_length;
+    memcpy(records + records_length, given, given_length);
+    records_length += given_length;
 }
 
 static void print(const char *name, size_t octets)
@@ -75,7 +89,7 @@ int main(void)
     /* what is answered waits first, so that all others move up; what we ask has one place left */
     const char *fresh = "", *open = "o0 own 1:59/2:17/3:11/4:10 peers 5:60/6:18/7:61/8:60",
                *peer = "n0 own 2:17/3:11/4:10 peers 5:60/6:18/7:61/8:60";
-    size_t none, deepest = 0;
+    size_t none, deepest = 0, of_batch = 0, kinds;
     struct {
         const uint8_t *octets;
         size_t length;
@@ -88,13 +102,25 @@ int main(void)
     memcpy(menu + 13, text, sizeof text);
 
     none = depth(nothing, fresh);
-    for (size_t i = 0; i < sizeof messages / sizeof *messages; i++) {
+    kinds = sizeof messages / sizeof *messages;
+    for (size_t i = 0; i < kinds; i++) {
+        const char *entries = i == 0 ? fresh : open;
         given = messages[i].octets;
         given_length = messages[i].length;
-        size_t n = depth(receive, i == 0 ? fresh : open) - none;
-        deepest = n > deepest ? n : deepest;
+        deepest = larger(deepest, depth(receive, entries) - none);
+        records_length = 0;
+        add_record();
+        of_batch = larger(of_batch, depth(batch, entries) - none);
     }
+    /* many records go no deeper than one */
+    for (size_t i = 1; i < MANY; i++) {
+        given = messages[i % kinds].octets;
+        given_length = messages[i % kinds].length;
+        add_record();
+    }
+    of_batch = larger(of_batch, depth(batch, open) - none);
     print("smr_receive", deepest);
+    print("smr_batch", of_batch);
     print("smr_begin", depth(begin, fresh) - none);
     print("smr_invoke", depth(invoke, peer) - none);
     print("smr_result", depth(result, peer) - none);

@@ -46,6 +46,23 @@ void put_table(const entry *from, uint8_t *table)
     }
 }
 
+static side see_side(const uint8_t *octets)
+{
+    side to = {.count = 0};
+    for (; to.count < PLACES && octets[1] != 0; octets += 2)
+        add_question(&to, (int8_t)octets[0], octets[1]);
+    return to;
+}
+
+void see_table(const uint8_t *table, entry *to)
+{
+    for (size_t k = 0; k < ENTRIES; k++, table += ENTRY) {
+        to[k].open = table[0] != 0;
+        to[k].own = see_side(table + 1);
+        to[k].peers = see_side(table + 1 + SIDE);
+    }
+}
+
 static void expect(bool holds, const char *what)
 {
     if (holds) return;

@@ -36,6 +36,8 @@ void drop_place(side *from, size_t place);
 /* The octets of a side, and of a whole table. */
 void put_side(const side *from, uint8_t *octets);
 void put_table(const entry *from, uint8_t *table);
+/* What the octets of a sound table say. */
+void see_table(const uint8_t *table, entry *to);
 
 /* Reads 1:17/2:59, each an id and its operation, or none. */
 side read_side(const char *list);

@@ -6,7 +6,7 @@
 #include <sys/mman.h>
 #include <unistd.h>
 
-enum { ROOMS = 4, PAGES = 20 };
+enum { ROOMS = 4, PAGES = 256 };
 
 uint8_t *lend(int which, size_t length, int before)
 {
