@@ -10,15 +10,18 @@ use Rattle.octets.specs.Splice.{splice}
 use Rattle.codes.proofs.IdLaws.{asHeld, IsId, held-is}
 use Rattle.printing.specs.Page.{Filled}
 use Rattle.printing.proofs.JoinLaws.{splice-nil}
-use Rattle.words.specs.declared.Command.the-variants.{Nothing, Unknown, Receive, Begin, Invoke, Result, Error, Release, Table, Buffer}
+use Rattle.words.specs.declared.Command.the-variants.{Nothing, Unknown, Receive, Begin, Invoke, Result, Error, Release, Table, Buffer, Batch}
 use Rattle.telephone.specs.Outcome.{Outcome}
 use Rattle.telephone.specs.Receive.{receive}
 use Rattle.telephone.specs.Calls.{begin, invokeWithin, result, error, release}
-use Rattle.telephone.specs.FromC.{receivedOf, calledOf}
+use Rattle.telephone.specs.Batch.{Batch as BatchOutcome, batch}
+use Rattle.telephone.specs.FromC.{receivedOf, calledOf, batchedOf}
 use Rattle.telephone.specs.declared.receive.Received.{Received}
 use Rattle.telephone.specs.declared.calls.Called.{Called}
+use Rattle.telephone.specs.declared.batch.Batched.{Batched}
 use Rattle.reports.specs.Shown.{receivedText, calledText}
-use Rattle.answers.specs.Answers.{Made, received, madeCall, idle, made, Makes}
+use Rattle.reports.specs.Slots.{batchedText}
+use Rattle.answers.specs.Answers.{Made, received, madeCall, madeBatch, idle, made, Makes}
 
 -- an id that the code hands on comes back as itself
 module _ (t b p : List ℕ) where
@@ -46,6 +49,10 @@ module _ (t b p : List ℕ) where
   unfolding made
   release-made flag value = refl
 
+  pub batch-made : (at : ℕ) → made t b p (Batch at) ≡ madeBatch (batch t p b)
+  unfolding made
+  batch-made at = refl
+
   pub none-made : (made t b p Nothing ≡ idle t) × (made t b p Unknown ≡ idle t)
   unfolding made
   none-made = (refl, refl)
@@ -72,6 +79,13 @@ module _ (m : Made) (page table buffer after : List ℕ) (r : ℕ) (o : Outcome)
   makes-receive p k e s w =
       let x : receivedText p buffer k ≡ m .text = (λ i. receivedText p (s .1 .0 i) (s .0 i)) ∙ ap (λ (d : Made). d .text) (sym e) in
       (s .1 .1 ∙ ap (λ (d : Made). d .table) (sym e), (w .0 ∙ ap (λ (y : List ℕ). splice page 0 y) x, (w .1 .0 ∙ ap (λ (y : List ℕ). length y) x, w .1 .1)))
+
+pub makes-batch : (m : Made) (page table output after : List ℕ) (r : ℕ) (o : BatchOutcome) (k : Batched) → m ≡ madeBatch o → (k ≡ batchedOf o) × ((output ≡ o .output) × (table ≡ o .table))
+    → Filled 70000 page (batchedText output k) after r
+    → Makes m table page after r
+makes-batch m page table output after r o k e s w =
+    let x : batchedText output k ≡ m .text = (λ i. batchedText (s .1 .0 i) (s .0 i)) ∙ ap (λ (d : Made). d .text) (sym e) in
+    (s .1 .1 ∙ ap (λ (d : Made). d .table) (sym e), (w .0 ∙ ap (λ (y : List ℕ). splice page 0 y) x, (w .1 .0 ∙ ap (λ (y : List ℕ). length y) x, w .1 .1)))
 
 pub makes-none : (m : Made) (page table : List ℕ) → m ≡ idle table → Makes m table page page 0
 makes-none m page table e = rw e (refl, (sym (splice-nil page 0), (refl, omega arith)))

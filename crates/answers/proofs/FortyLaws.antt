@@ -15,9 +15,9 @@ use Rattle.words.specs.Commands as commands
 use Rattle.words.specs.declared.Ending.{Ending}
 use Rattle.words.specs.declared.Ending.the-variants.{Whole, Wrong, Long}
 use Rattle.words.specs.declared.Command.{Command}
-use Rattle.words.specs.declared.Command.the-variants.{Nothing, Unknown, Receive, Begin, Invoke, Result, Error, Release, Table, Buffer}
+use Rattle.words.specs.declared.Command.the-variants.{Nothing, Unknown, Receive, Begin, Invoke, Result, Error, Release, Table, Buffer, Batch}
 use Rattle.reports.specs.Words.{tableWord, bufferWord, lineWord, tableSet}
-use Rattle.reports.proofs.FortyLaws.{received-forty, called-forty}
+use Rattle.reports.proofs.FortyLaws.{received-forty, called-forty, batched-forty}
 use Rattle.answers.specs.Lines.{longest}
 use Rattle.answers.specs.declared.answer.Asks.{Asks}
 use Rattle.answers.specs.declared.answer.Asks.the-variants.{Passed, Unclear, Room, Image, Call}
@@ -57,6 +57,7 @@ made-forty t buffer p (Invoke flag value operation id at) = called-forty false _
 made-forty t buffer p (Result flag value id at) = called-forty false _ _
 made-forty t buffer p (Error flag value id code at) = called-forty false _ _
 made-forty t buffer p (Release flag value) = called-forty false _ _
+made-forty t buffer p (Batch at) = batched-forty _ _
 made-forty t buffer p (Table at) = nothing
 made-forty t buffer p (Buffer n) = nothing
 

@@ -19,7 +19,7 @@ use Rattle.words.specs.declared.IdAt.the-variants.{NoId, IdIs}
 use Rattle.words.specs.declared.Verb.{Verb}
 use Rattle.words.specs.declared.Verb.the-variants as verbs
 use Rattle.words.specs.declared.Command.{Command}
-use Rattle.words.specs.declared.Command.the-variants.{Nothing, Unknown, Receive, Begin, Invoke, Result, Error, Release, Table, Buffer}
+use Rattle.words.specs.declared.Command.the-variants.{Nothing, Unknown, Receive, Begin, Invoke, Result, Error, Release, Table, Buffer, Batch}
 use Rattle.answers.specs.declared.answer.Asks.the-variants.{Room}
 use Rattle.answers.specs.Answers.{asksOf}
 
@@ -51,6 +51,7 @@ InRoom (Error flag value id code at) = Unit {0}
 InRoom (Release flag value) = Unit {0}
 InRoom (Table at) = Unit {0}
 InRoom (Buffer n) = n ≤ 300
+InRoom (Batch at) = Unit {0}
 
 in-octet : (o : OctetAt) (k : ℕ → ℕ → Command) → ((n next : ℕ) → InRoom (k n next)) → InRoom (thenOctet o k)
 in-octet NoOctet k h = tt
@@ -102,6 +103,7 @@ in-verb s at verbs.Error = in-error s at
 in-verb s at verbs.Release = in-release s at
 in-verb s at verbs.Table = tt
 in-verb s at verbs.Buffer = in-buffer s at
+in-verb s at verbs.Batch = tt
 in-verb s at verbs.Other = tt
 
 pub in-room : (s : List ℕ) → InRoom (command s)
@@ -119,3 +121,4 @@ room-most end n (Error flag value id code at) h e = let z : _≡_ {A = ℕ} 0 1 
 room-most end n (Release flag value) h e = let z : _≡_ {A = ℕ} 0 1 = cc in absurd (omega arith)
 room-most end n (Table at) h e = let z : _≡_ {A = ℕ} 0 1 = cc in absurd (omega arith)
 room-most end n (Buffer m) h e = let q : n ≡ m = cc in omega arith
+room-most end n (Batch at) h e = let z : _≡_ {A = ℕ} 0 1 = cc in absurd (omega arith)

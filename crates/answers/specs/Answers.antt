@@ -15,17 +15,19 @@ use Rattle.words.specs.Commands as commands
 use Rattle.words.specs.declared.Ending.{Ending}
 use Rattle.words.specs.declared.Ending.the-variants.{Whole, Wrong, Long}
 use Rattle.words.specs.declared.Command.{Command}
-use Rattle.words.specs.declared.Command.the-variants.{Nothing, Unknown, Receive, Begin, Invoke, Result, Error, Release, Table, Buffer}
+use Rattle.words.specs.declared.Command.the-variants.{Nothing, Unknown, Receive, Begin, Invoke, Result, Error, Release, Table, Buffer, Batch}
 use Rattle.telephone.specs.Outcome.{Outcome}
 use Rattle.telephone.specs.Receive.{receive}
 use Rattle.telephone.specs.Calls.{begin, invokeWithin, result, error, release}
-use Rattle.telephone.specs.FromC.{receivedOf, calledOf}
+use Rattle.telephone.specs.Batch.{Batch as BatchOutcome, batch}
+use Rattle.telephone.specs.FromC.{receivedOf, calledOf, batchedOf}
 use Rattle.answers.specs.Lines.{longest}
 use Rattle.answers.specs.declared.answer.Held.{Held}
 use Rattle.answers.specs.declared.answer.Asks.{Asks}
 use Rattle.answers.specs.declared.answer.Asks.the-variants.{Passed, Unclear, Room, Image, Call}
 use Rattle.reports.specs.Words.{tableWord, bufferWord, lineWord, tableSet, notUnderstoodWords, tooLongWords}
 use Rattle.reports.specs.Shown.{receivedText, calledText}
+use Rattle.reports.specs.Slots.{batchedText}
 
 -- what goes on from line to line: "the image", "the reply buffer's length"
 pub record State : Type 0 where
@@ -50,7 +52,7 @@ tooLong n = lineWord ++ decimal n ++ tooLongWords
 abbrev pub cleared : ℕ → List ℕ
 cleared room = replicate room 0
 
--- a message received or a call made: what is printed, and the table afterwards
+-- a message received, a call or a batch made: what is printed, and the table afterwards
 pub record Made : Type 0 where
   pub text : List ℕ
   pub table : List ℕ
@@ -60,6 +62,10 @@ received m o = record { text = receivedText m (o .buffer) (receivedOf (length m)
 
 abbrev pub madeCall : Bool → Outcome → Made
 madeCall begins o = record { text = calledText begins (o .buffer) (calledOf o); table = o .table }
+
+-- "The output is as long as `buffer N` says, cleared beforehand"
+abbrev pub madeBatch : BatchOutcome → Made
+madeBatch b = record { text = batchedText (b .output) (batchedOf b); table = b .table }
 
 abbrev pub idle : List ℕ → Made
 idle t = record { text = []; table = t }
@@ -72,6 +78,7 @@ made t buffer p (Invoke flag value operation id at) = madeCall false (invokeWith
 made t buffer p (Result flag value id at) = madeCall false (result t buffer flag value id p)
 made t buffer p (Error flag value id code at) = madeCall false (error t buffer flag value id code p)
 made t buffer p (Release flag value) = madeCall false (release t buffer flag value)
+made t buffer p (Batch at) = madeBatch (batch t p buffer)
 made t buffer p Nothing = idle t
 made t buffer p Unknown = idle t
 made t buffer p (Table at) = idle t
@@ -99,6 +106,7 @@ asksOf end (Invoke flag value operation id at) = Call at
 asksOf end (Result flag value id at) = Call at
 asksOf end (Error flag value id code at) = Call at
 asksOf end (Release flag value) = Call end
+asksOf end (Batch at) = Call at
 
 -- "octets over 4,096 in a line likewise, `line N too long`"
 abbrev pub unlessWhole : ℕ → State → Ending → Said → Said

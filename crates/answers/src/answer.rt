@@ -5,6 +5,7 @@ use printing::numbers::put_decimal;
 use printing::numbers::put_words;
 use reports::shown::called_text;
 use reports::shown::received_text;
+use reports::slots::batched_text;
 use words::Command;
 use words::Ending;
 ghost use mathlib.Core.Path.{_≡_};
@@ -83,6 +84,9 @@ fn asks_of(end: usize, command: Command) -> Asks
         }
         Command::Release { flag: _, value: _ } => {
             return Asks::Call(end);
+        }
+        Command::Batch { at } => {
+            return Asks::Call(at);
         }
     }
 }
@@ -170,6 +174,10 @@ fn make(
         Command::Release { flag, value } => {
             let called = telephone::calls::smr_release(table, flag, value, buffer);
             return called_text(page, false, buffer, called);
+        }
+        Command::Batch { at: _ } => {
+            let batched = telephone::batch::smr_batch(table, octets, buffer);
+            return batched_text(page, buffer, batched);
         }
         Command::Nothing => {
             return 0;

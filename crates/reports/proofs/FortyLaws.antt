@@ -1,10 +1,10 @@
 -- No line of an answer is longer than forty characters.
-use Prim.Native.Nat.{ℕ, _≤_}
+use Prim.Native.Nat.{ℕ, zero, suc, _≤_}
 use mathlib.Core.Path.{_≡_, refl}
-use mathlib.Core.List.{List, [], _∷_}
+use mathlib.Core.List.{List, [], _∷_, _++_}
 use mathlib.Core.Bool.{Bool, true, false, cond, not, _&&_}
 use native.Mathlib.Omega.{arith}
-use lib.ListN.{length, take}
+use lib.ListN.{length, take, drop, getD}
 use lib.IntN.{ℤ}
 use lib.Dec.{eqb, ltb}
 use borrow.Author.Tests.{eqb-true, eqb-false}
@@ -17,9 +17,11 @@ use Rattle.showing.specs.declared.TextView.{TextView}
 use Rattle.showing.specs.declared.CauseView.{CauseView}
 use Rattle.telephone.specs.declared.receive.Received.{Received}
 use Rattle.telephone.specs.declared.calls.Called.{Called}
-use Rattle.reports.specs.Words.{invokeWord, resultWord, errorWord, rejectWord, rejectNone, linkedWord, operationWord, codeWord, parameterWord, schemeWord, stringWord, tailWord, causeWord, replyWord, messageWord, valueWord, doneLine, refusedLine, verdictLine, doneOrRefused}
+use Rattle.telephone.specs.declared.batch.Batched.{Batched}
+use Rattle.reports.specs.Words.{invokeWord, resultWord, errorWord, rejectWord, rejectNone, linkedWord, operationWord, codeWord, parameterWord, schemeWord, stringWord, tailWord, causeWord, replyWord, messageWord, valueWord, slotsWord, doneLine, refusedLine, verdictLine, doneOrRefused}
 use Rattle.showing.specs.Views.{standing}
 use Rattle.reports.specs.Shown.{kindLines, numberLines, parameterLine, cellLines, textLines, causeLine, writtenLine, receivedText, calledText}
+use Rattle.reports.specs.Slots.{slotText, slotLines, batchedText}
 use Rattle.reports.proofs.FeltLaws.{cells-forty}
 use Rattle.reports.proofs.VerdictLaws.{refused-none, verdict-none}
 
@@ -43,7 +45,9 @@ refused-forty code =
     tested code 26 (λ e. rw e refl) λ h6.
     tested code 27 (λ e. rw e refl) λ h7.
     tested code 28 (λ e. rw e refl) λ h8.
-    rw (refused-none code h0 h1 h2 h3 h4 h5 h6 h7 h8) refl
+    tested code 30 (λ e. rw e refl) λ h9.
+    tested code 31 (λ e. rw e refl) λ h10.
+    rw (refused-none code h0 h1 h2 h3 h4 h5 h6 h7 h8 h9 h10) refl
 
 pub verdict-forty : (code : ℕ) → forty (verdictLine code) ≡ true
 unfolding verdictLine forty fortyFrom
@@ -144,4 +148,22 @@ called-forty begins buffer c =
     (done-forty (c .code))
     (number-there (begins && eqb (c .code) 0) valueWord (c .value) refl (omega arith)))
     (written-forty messageWord (c .written) buffer refl (omega arith)))
+    line-end
+
+slot-forty : (s : List ℕ) → forty (slotText s) ≡ true
+unfolding slotText plain
+slot-forty s = forty-append _ _ (verdict-forty (getD s 0 0)) (written-forty replyWord (getD s 1 0) (take 12 (drop 2 s)) refl (omega arith))
+
+slots-forty : (n : ℕ) (s : List ℕ) → forty (slotLines n s) ≡ true
+unfolding slotLines forty fortyFrom
+slots-forty zero s = refl
+slots-forty (suc n) s = forty-append (slotText s) (slotLines n (drop 14 s)) (slot-forty s) (slots-forty n (drop 14 s))
+
+pub batched-forty : (output : List ℕ) (b : Batched) → forty (batchedText output b) ≡ true
+unfolding batchedText plain
+batched-forty output b =
+    forty-append _ _ (forty-append _ _
+    (done-forty (b .code))
+    (forty-when (eqb (b .code) 0) (numberLine slotsWord (b .slots) ++ slotLines (b .slots) output)
+    (forty-append _ _ (number-forty slotsWord (b .slots) refl (omega arith)) (slots-forty (b .slots) output))))
     line-end

@@ -68,6 +68,10 @@ messageWord = 109 ∷ 101 ∷ 115 ∷ 115 ∷ 97 ∷ 103 ∷ 101 ∷ []
 abbrev pub valueWord : List ℕ
 valueWord = 118 ∷ 97 ∷ 108 ∷ 117 ∷ 101 ∷ []
 
+-- `slots`
+abbrev pub slotsWord : List ℕ
+slotsWord = 115 ∷ 108 ∷ 111 ∷ 116 ∷ 115 ∷ []
+
 -- `table`
 abbrev pub tableWord : List ℕ
 tableWord = 116 ∷ 97 ∷ 98 ∷ 108 ∷ 101 ∷ []
@@ -100,7 +104,7 @@ notUnderstoodWords = 32 ∷ 110 ∷ 111 ∷ 116 ∷ 32 ∷ 117 ∷ 110 ∷ 100 �
 abbrev pub tooLongWords : List ℕ
 tooLongWords = 32 ∷ 116 ∷ 111 ∷ 111 ∷ 32 ∷ 108 ∷ 111 ∷ 110 ∷ 103 ∷ 10 ∷ 10 ∷ []
 
--- "`refused 28 table damaged` for any refusal": 20 not listed, 21 no value free, 22 not open, 23 still waiting, 24 no such invoke, 25 wrong parameter, 26 message too long, 27 buffer too short, 28 table damaged
+-- "`refused 28 table damaged` for any refusal": 20 not listed, 21 no value free, 22 not open, 23 still waiting, 24 no such invoke, 25 wrong parameter, 26 message too long, 27 buffer too short, 28 table damaged, 30 bad record, 31 output too short
 unfoldable pub refusedLine : ℕ → List ℕ
 refusedLine code =
     cond (eqb code 20) (114 ∷ 101 ∷ 102 ∷ 117 ∷ 115 ∷ 101 ∷ 100 ∷ 32 ∷ 50 ∷ 48 ∷ 32 ∷ 110 ∷ 111 ∷ 116 ∷ 32 ∷ 108 ∷ 105 ∷ 115 ∷ 116 ∷ 101 ∷ 100 ∷ 10 ∷ [])
@@ -112,7 +116,9 @@ refusedLine code =
     (cond (eqb code 26) (114 ∷ 101 ∷ 102 ∷ 117 ∷ 115 ∷ 101 ∷ 100 ∷ 32 ∷ 50 ∷ 54 ∷ 32 ∷ 109 ∷ 101 ∷ 115 ∷ 115 ∷ 97 ∷ 103 ∷ 101 ∷ 32 ∷ 116 ∷ 111 ∷ 111 ∷ 32 ∷ 108 ∷ 111 ∷ 110 ∷ 103 ∷ 10 ∷ [])
     (cond (eqb code 27) (114 ∷ 101 ∷ 102 ∷ 117 ∷ 115 ∷ 101 ∷ 100 ∷ 32 ∷ 50 ∷ 55 ∷ 32 ∷ 98 ∷ 117 ∷ 102 ∷ 102 ∷ 101 ∷ 114 ∷ 32 ∷ 116 ∷ 111 ∷ 111 ∷ 32 ∷ 115 ∷ 104 ∷ 111 ∷ 114 ∷ 116 ∷ 10 ∷ [])
     (cond (eqb code 28) (114 ∷ 101 ∷ 102 ∷ 117 ∷ 115 ∷ 101 ∷ 100 ∷ 32 ∷ 50 ∷ 56 ∷ 32 ∷ 116 ∷ 97 ∷ 98 ∷ 108 ∷ 101 ∷ 32 ∷ 100 ∷ 97 ∷ 109 ∷ 97 ∷ 103 ∷ 101 ∷ 100 ∷ 10 ∷ [])
-    []))))))))
+    (cond (eqb code 30) (114 ∷ 101 ∷ 102 ∷ 117 ∷ 115 ∷ 101 ∷ 100 ∷ 32 ∷ 51 ∷ 48 ∷ 32 ∷ 98 ∷ 97 ∷ 100 ∷ 32 ∷ 114 ∷ 101 ∷ 99 ∷ 111 ∷ 114 ∷ 100 ∷ 10 ∷ [])
+    (cond (eqb code 31) (114 ∷ 101 ∷ 102 ∷ 117 ∷ 115 ∷ 101 ∷ 100 ∷ 32 ∷ 51 ∷ 49 ∷ 32 ∷ 111 ∷ 117 ∷ 116 ∷ 112 ∷ 117 ∷ 116 ∷ 32 ∷ 116 ∷ 111 ∷ 111 ∷ 32 ∷ 115 ∷ 104 ∷ 111 ∷ 114 ∷ 116 ∷ 10 ∷ [])
+    []))))))))))
 
 -- "`verdict 0 taken` .. (each verdict's number with a word or two)": 0 taken, 1 ignored, 2 cause sent, 3 reject sent, 4 reject received, 5 network released, 6 too long, 7 other protocol
 unfoldable pub verdictLine : ℕ → List ℕ

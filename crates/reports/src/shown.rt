@@ -123,7 +123,7 @@ fn cause_line(page: &mut [u8], at: usize, message: &[u8], view: CauseView) -> us
 }
 
 // What is to be sent: the front of the buffer.
-fn written_line(page: &mut [u8], at: usize, word: &[u8], written: usize, buffer: &[u8]) -> usize
+pub fn written_line(page: &mut [u8], at: usize, word: &[u8], written: usize, buffer: &[u8]) -> usize
     requires { ⌜ (length (now word) ≤ 16) × ((length (now buffer) ≤ 300) × (at + 1264 ≤ length (now page))) ⌝ }
     ensures { λ r. ⌜ WroteWithin 1264 (now (page .entry)) at (writtenLine (now (word .entry)) written (now (buffer .entry))) (now (page .exit)) r ⌝ }
 {

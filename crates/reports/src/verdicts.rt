@@ -36,6 +36,12 @@ pub fn refused_line(page: &mut [u8], at: usize, code: u8) -> usize
     if code == 28 {
         return put_words(page, at, b"refused 28 table damaged\n");
     }
+    if code == 30 {
+        return put_words(page, at, b"refused 30 bad record\n");
+    }
+    if code == 31 {
+        return put_words(page, at, b"refused 31 output too short\n");
+    }
     at
 }
 

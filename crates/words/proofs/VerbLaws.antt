@@ -5,7 +5,7 @@ use mathlib.Core.List.{List, [], _∷_}
 use mathlib.Core.Bool.{Bool, true, false}
 use Rattle.words.specs.Words.{same}
 use Rattle.words.specs.Commands.{verbOf}
-use Rattle.words.specs.declared.Verb.the-variants.{Receive, Begin, Invoke, Result, Error, Release, Table, Buffer, Other}
+use Rattle.words.specs.declared.Verb.the-variants.{Receive, Begin, Invoke, Result, Error, Release, Table, Buffer, Batch, Other}
 
 module _ (w : List ℕ) where
   abbrev pub is-receive : Bool → Type 0
@@ -31,6 +31,9 @@ module _ (w : List ℕ) where
 
   abbrev pub is-buffer : Bool → Type 0
   is-buffer b = same w (98 ∷ 117 ∷ 102 ∷ 102 ∷ 101 ∷ 114 ∷ []) ≡ b
+
+  abbrev pub is-batch : Bool → Type 0
+  is-batch b = same w (98 ∷ 97 ∷ 116 ∷ 99 ∷ 104 ∷ []) ≡ b
 
   pub verb-receive : is-receive true → verbOf w ≡ Receive
   unfolding verbOf
@@ -64,6 +67,10 @@ module _ (w : List ℕ) where
   unfolding verbOf
   verb-buffer a b c d e f g h = rw (a, b, c, d, e, f, g, h)
 
-  pub verb-other : is-receive false → is-begin false → is-invoke false → is-result false → is-error false → is-release false → is-table false → is-buffer false → verbOf w ≡ Other
+  pub verb-batch : is-receive false → is-begin false → is-invoke false → is-result false → is-error false → is-release false → is-table false → is-buffer false → is-batch true → verbOf w ≡ Batch
   unfolding verbOf
-  verb-other a b c d e f g h = rw (a, b, c, d, e, f, g, h)
+  verb-batch a b c d e f g h k = rw (a, b, c, d, e, f, g, h, k)
+
+  pub verb-other : is-receive false → is-begin false → is-invoke false → is-result false → is-error false → is-release false → is-table false → is-buffer false → is-batch false → verbOf w ≡ Other
+  unfolding verbOf
+  verb-other a b c d e f g h k = rw (a, b, c, d, e, f, g, h, k)

@@ -17,9 +17,9 @@ use Rattle.words.specs.declared.IdAt.the-variants.{NoId, IdIs}
 use Rattle.words.specs.declared.Verb.{Verb}
 use Rattle.words.specs.declared.Verb.the-variants as verbs
 use Rattle.words.specs.declared.Command.{Command}
-use Rattle.words.specs.declared.Command.the-variants.{Nothing, Unknown, Receive, Begin, Invoke, Result, Error, Release, Table, Buffer}
+use Rattle.words.specs.declared.Command.the-variants.{Nothing, Unknown, Receive, Begin, Invoke, Result, Error, Release, Table, Buffer, Batch}
 
--- `receive`, `begin`, `invoke`, `result`, `error`, `release`, `table`, `buffer`
+-- `receive`, `begin`, `invoke`, `result`, `error`, `release`, `table`, `buffer`, `batch`
 unfoldable pub verbOf : List ℕ → Verb
 verbOf w =
     cond (same w (114 ∷ 101 ∷ 99 ∷ 101 ∷ 105 ∷ 118 ∷ 101 ∷ [])) verbs.Receive
@@ -30,7 +30,8 @@ verbOf w =
     (cond (same w (114 ∷ 101 ∷ 108 ∷ 101 ∷ 97 ∷ 115 ∷ 101 ∷ [])) verbs.Release
     (cond (same w (116 ∷ 97 ∷ 98 ∷ 108 ∷ 101 ∷ [])) verbs.Table
     (cond (same w (98 ∷ 117 ∷ 102 ∷ 102 ∷ 101 ∷ 114 ∷ [])) verbs.Buffer
-    verbs.Other)))))))
+    (cond (same w (98 ∷ 97 ∷ 116 ∷ 99 ∷ 104 ∷ [])) verbs.Batch
+    verbs.Other))))))))
 
 abbrev pub thenOctet : OctetAt → (ℕ → ℕ → Command) → Command
 thenOctet NoOctet k = Unknown
@@ -95,6 +96,7 @@ byVerb s at verbs.Error = errorAt s at
 byVerb s at verbs.Release = releaseAt s at
 byVerb s at verbs.Table = Table at
 byVerb s at verbs.Buffer = bufferAt s at
+byVerb s at verbs.Batch = Batch at
 byVerb s at verbs.Other = Unknown
 
 -- "Lines that are empty or start with # are passed over without an answer."

@@ -39,6 +39,9 @@ fn verb_of(word: &[u8]) -> Verb
     if is_same(word, b"buffer") {
         return Verb::Buffer;
     }
+    if is_same(word, b"batch") {
+        return Verb::Batch;
+    }
     Verb::Other
 }
 
@@ -218,6 +221,7 @@ fn by_verb(s: &[u8], at: usize, verb: Verb) -> Command
         Verb::Release => release_at(s, at),
         Verb::Table => Command::Table { at: at },
         Verb::Buffer => buffer_at(s, at),
+        Verb::Batch => Command::Batch { at: at },
         Verb::Other => Command::Unknown,
     }
 }

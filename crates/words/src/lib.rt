@@ -42,6 +42,7 @@ pub enum Verb {
     Release,
     Table,
     Buffer,
+    Batch,
     Other,
 }
 
@@ -85,4 +86,7 @@ pub enum Command {
         at: usize,
     },
     Buffer(usize),
+    Batch {
+        at: usize,
+    },
 }

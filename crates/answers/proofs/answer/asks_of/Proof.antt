@@ -66,6 +66,12 @@ enum-told-3 c = search needs
 returns-10 : tie.Need-returns-10
 returns-10 c = sym (ap (asksOf (c .before .before .args .end)) (c .enum-told3 .given .1))
 
+enum-known-command-8 : tie.Need-enum-known-command-8
+enum-known-command-8 c = search needs
+
+returns-11 : tie.Need-returns-11
+returns-11 c = sym (ap (asksOf (c .before .before .before .args .end)) (c .before .command8 .given .1))
+
 pub asks-of-spec : {M : Type 1} → statement M
 asks-of-spec =
     tie.close
@@ -89,4 +95,6 @@ asks-of-spec =
     enum-known-command-7
     returns-9
     enum-told-3
-    returns-10)
+    returns-10
+    enum-known-command-8
+    returns-11)

@@ -1,10 +1,15 @@
 use borrow.Author.Needs.{needs}
+use Prim.Native.Nat.{_*_, _≤_}
 use mathlib.Core.Path.{ap, _∙_}
-use Rattle.answers.proofs.CallLaws.{receive-made, begin-made, invoke-made, result-made, error-made, release-made, none-made, table-made, buffer-made, makes-call, makes-receive, makes-none}
+use native.Mathlib.Omega.{arith}
+use lib.ListN.{length}
+use Rattle.answers.proofs.CallLaws.{receive-made, begin-made, invoke-made, result-made, error-made, release-made, batch-made, none-made, table-made, buffer-made, makes-call, makes-receive, makes-batch, makes-none}
 use Rattle.codes.proofs.IdLaws.{asHeld}
 use Rattle.words.specs.declared.Command.{Command}
 use Rattle.telephone.specs.Receive.{receive}
 use Rattle.telephone.specs.Calls.{begin, invokeWithin, result, error, release}
+use Rattle.telephone.specs.Batch.{batch}
+use Rattle.telephone.proofs.BatchLaws.{slots-within}
 use Rattle.answers.specs.Answers.{made}
 use Rattle.answers.proofs.answer.make.Statement.{statement}
 use Rattle.answers.proofs.answer.make.Tie as tie
@@ -12,6 +17,8 @@ use Rattle.answers.proofs.answer.make.Reads as reads
 use Rattle.answers.proofs.answer.make.Lts as lts
 use Rattle.reports.proofs.shown.called_text.Reads as called-text-reads
 use Rattle.reports.proofs.shown.received_text.Reads as received-text-reads
+use Rattle.reports.proofs.slots.batched_text.Reads as batched-text-reads
+use Rattle.telephone.proofs.batch.smr_batch.Reads as smr-batch-reads
 use Rattle.telephone.proofs.calls.smr_begin.Reads as smr-begin-reads
 use Rattle.telephone.proofs.calls.smr_error.Reads as smr-error-reads
 use Rattle.telephone.proofs.calls.smr_invoke.Reads as smr-invoke-reads
@@ -181,10 +188,31 @@ returns-6 c =
 enum-told-2 : tie.Need-enum-told-2
 enum-told-2 c = search needs
 
+smr-batch-requires : tie.Need-smr-batch-requires
+smr-batch-requires c κs = search needs
+
+batched-text-requires : tie.Need-batched-text-requires
+batched-text-requires c κs =
+    let a = c .before .before .before .before .before .before .before .before .before .before .before .before .before .before .before .args in
+    let k = c .before .before .before .before .before .before .smr-batch .kept .1 .1 .0 in
+    let w : 14 * c .before .before .before .before .before .before .smr-batch .result .slots ≤ length (a .buffer .now) = rw (c .before .before .before .before .before .before .smr-batch .ensures .0) (slots-within (a .table .now) (a .octets .now) (a .buffer .now)) in
+    (omega (arith, k), (omega (arith, k, w), omega arith))
+
+same-length-19 : tie.Need-same-length-19
+same-length-19 c = search needs
+
+same-length-20 : tie.Need-same-length-20
+same-length-20 c = search needs
+
+same-length-21 : tie.Need-same-length-21
+same-length-21 c = search needs
+
 returns-7 : tie.Need-returns-7
 returns-7 c =
-    let a = c .before .before .before .before .before .before .args in
-    makes-none _ (a .page .now) (a .table .now) (ap (λ (x : Command). made (a .table .now) (a .buffer .now) (a .octets .now) x) (c .enum-told2 .given .1) ∙ none-made (a .table .now) (a .buffer .now) (a .octets .now) .0)
+    let a = c .before .before .before .before .before .before .before .before .before .before .before .before .before .before .before .before .before .before .args in
+    let o = batch (a .table .now) (a .octets .now) (a .buffer .now) in
+    let e = ap (λ (x : Command). made (a .table .now) (a .buffer .now) (a .octets .now) x) (c .before .before .before .before .before .before .before .before .before .before .before .before .enum-told2 .given .1) ∙ batch-made (a .table .now) (a .buffer .now) (a .octets .now) _ in
+    makes-batch _ _ _ _ _ _ o _ e (c .before .before .before .before .before .before .before .before .before .smr-batch .ensures) (c .before .before .batched-text .ensures)
 
 enum-told-3 : tie.Need-enum-told-3
 enum-told-3 c = search needs
@@ -192,7 +220,7 @@ enum-told-3 c = search needs
 returns-8 : tie.Need-returns-8
 returns-8 c =
     let a = c .before .before .before .before .before .before .args in
-    makes-none _ (a .page .now) (a .table .now) (ap (λ (x : Command). made (a .table .now) (a .buffer .now) (a .octets .now) x) (c .enum-told3 .given .1) ∙ none-made (a .table .now) (a .buffer .now) (a .octets .now) .1)
+    makes-none _ (a .page .now) (a .table .now) (ap (λ (x : Command). made (a .table .now) (a .buffer .now) (a .octets .now) x) (c .enum-told3 .given .1) ∙ none-made (a .table .now) (a .buffer .now) (a .octets .now) .0)
 
 enum-told-4 : tie.Need-enum-told-4
 enum-told-4 c = search needs
@@ -200,7 +228,7 @@ enum-told-4 c = search needs
 returns-9 : tie.Need-returns-9
 returns-9 c =
     let a = c .before .before .before .before .before .before .args in
-    makes-none _ (a .page .now) (a .table .now) (ap (λ (x : Command). made (a .table .now) (a .buffer .now) (a .octets .now) x) (c .enum-told4 .given .1) ∙ table-made (a .table .now) (a .buffer .now) (a .octets .now) _)
+    makes-none _ (a .page .now) (a .table .now) (ap (λ (x : Command). made (a .table .now) (a .buffer .now) (a .octets .now) x) (c .enum-told4 .given .1) ∙ none-made (a .table .now) (a .buffer .now) (a .octets .now) .1)
 
 enum-told-5 : tie.Need-enum-told-5
 enum-told-5 c = search needs
@@ -208,7 +236,15 @@ enum-told-5 c = search needs
 returns-10 : tie.Need-returns-10
 returns-10 c =
     let a = c .before .before .before .before .before .before .args in
-    makes-none _ (a .page .now) (a .table .now) (ap (λ (x : Command). made (a .table .now) (a .buffer .now) (a .octets .now) x) (c .enum-told5 .given .1) ∙ buffer-made (a .table .now) (a .buffer .now) (a .octets .now) _)
+    makes-none _ (a .page .now) (a .table .now) (ap (λ (x : Command). made (a .table .now) (a .buffer .now) (a .octets .now) x) (c .enum-told5 .given .1) ∙ table-made (a .table .now) (a .buffer .now) (a .octets .now) _)
+
+enum-told-6 : tie.Need-enum-told-6
+enum-told-6 c = search needs
+
+returns-11 : tie.Need-returns-11
+returns-11 c =
+    let a = c .before .before .before .before .before .before .args in
+    makes-none _ (a .page .now) (a .table .now) (ap (λ (x : Command). made (a .table .now) (a .buffer .now) (a .octets .now) x) (c .enum-told6 .given .1) ∙ buffer-made (a .table .now) (a .buffer .now) (a .octets .now) _)
 
 pub make-spec : {M : Type 1} → statement M
 make-spec =
@@ -257,10 +293,17 @@ make-spec =
     same-length-18
     returns-6
     enum-told-2
+    smr-batch-requires
+    batched-text-requires
+    same-length-19
+    same-length-20
+    same-length-21
     returns-7
     enum-told-3
     returns-8
     enum-told-4
     returns-9
     enum-told-5
-    returns-10)
+    returns-10
+    enum-told-6
+    returns-11)

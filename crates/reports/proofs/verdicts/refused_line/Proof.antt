@@ -154,11 +154,43 @@ returns-9 c =
     let w = c .before .before .put-words9 .ensures in
     rw e (w .0, (w .1, omega arith))
 
+slice-aggregate-put-words-10 : tie.Need-slice-aggregate-put-words-10
+slice-aggregate-put-words-10 c = search needs
+
+put-words-requires-10 : tie.Need-put-words-requires-10
+put-words-requires-10 c κs = search needs
+
+same-length-10 : tie.Need-same-length-10
+same-length-10 c = search needs
+
 returns-10 : tie.Need-returns-10
+unfolding refusedLine
 returns-10 c =
-    let a = c .before .before .before .before .before .before .before .before .before .before .args in
+    let e : c .before .before .before .before .before .before .before .before .before .before .before .before .before .before .before .before .args .code ≡ 30 = c .before .before .before .before .before .if10 .taken in
+    let w = c .before .before .put-words10 .ensures in
+    rw e (w .0, (w .1, omega arith))
+
+slice-aggregate-put-words-11 : tie.Need-slice-aggregate-put-words-11
+slice-aggregate-put-words-11 c = search needs
+
+put-words-requires-11 : tie.Need-put-words-requires-11
+put-words-requires-11 c κs = search needs
+
+same-length-11 : tie.Need-same-length-11
+same-length-11 c = search needs
+
+returns-11 : tie.Need-returns-11
+unfolding refusedLine
+returns-11 c =
+    let e : c .before .before .before .before .before .before .before .before .before .before .before .before .before .before .before .before .before .args .code ≡ 31 = c .before .before .before .before .before .if11 .taken in
+    let w = c .before .before .put-words11 .ensures in
+    rw e (w .0, (w .1, omega arith))
+
+returns-12 : tie.Need-returns-12
+returns-12 c =
+    let a = c .before .before .before .before .before .before .before .before .before .before .before .before .args in
     let n = nothing (a .page .now) (a .at) in
-    let e = refused-none (a .code) (c .before .before .before .before .before .before .before .before .if1 .left) (c .before .before .before .before .before .before .before .if2 .left) (c .before .before .before .before .before .before .if3 .left) (c .before .before .before .before .before .if4 .left) (c .before .before .before .before .if5 .left) (c .before .before .before .if6 .left) (c .before .before .if7 .left) (c .before .if8 .left) (c .if9 .left) in
+    let e = refused-none (a .code) (c .before .before .before .before .before .before .before .before .before .before .if1 .left) (c .before .before .before .before .before .before .before .before .before .if2 .left) (c .before .before .before .before .before .before .before .before .if3 .left) (c .before .before .before .before .before .before .before .if4 .left) (c .before .before .before .before .before .before .if5 .left) (c .before .before .before .before .before .if6 .left) (c .before .before .before .before .if7 .left) (c .before .before .before .if8 .left) (c .before .before .if9 .left) (c .before .if10 .left) (c .if11 .left) in
     rw e (n .0, (n .1, omega arith))
 
 pub refused-line-spec : {M : Type 1} → statement M
@@ -201,4 +233,12 @@ refused-line-spec =
     put-words-requires-9
     same-length-9
     returns-9
-    returns-10)
+    slice-aggregate-put-words-10
+    put-words-requires-10
+    same-length-10
+    returns-10
+    slice-aggregate-put-words-11
+    put-words-requires-11
+    same-length-11
+    returns-11
+    returns-12)

@@ -57,6 +57,9 @@ buffer-at-requires c κs = search needs
 enum-told-9 : tie.Need-enum-told-9
 enum-told-9 c = search needs
 
+enum-told-10 : tie.Need-enum-told-10
+enum-told-10 c = search needs
+
 returns : tie.Need-returns
 unfolding byVerb
 returns c = sym (ap (byVerb (c .before .before .before .args .s .now) (c .before .before .before .args .at)) (c .enum-told .given .1))
@@ -93,6 +96,10 @@ returns-9 : tie.Need-returns-9
 unfolding byVerb
 returns-9 c = sym (ap (byVerb (c .before .before .before .args .s .now) (c .before .before .before .args .at)) (c .enum-told9 .given .1))
 
+returns-10 : tie.Need-returns-10
+unfolding byVerb
+returns-10 c = sym (ap (byVerb (c .before .before .before .args .s .now) (c .before .before .before .args .at)) (c .enum-told10 .given .1))
+
 pub by-verb-spec : {M : Type 1} → statement M
 by-verb-spec =
     tie.close
@@ -112,6 +119,7 @@ by-verb-spec =
     enum-told-8
     buffer-at-requires
     enum-told-9
+    enum-told-10
     returns
     returns-2
     returns-3
@@ -120,4 +128,5 @@ by-verb-spec =
     returns-6
     returns-7
     returns-8
-    returns-9)
+    returns-9
+    returns-10)

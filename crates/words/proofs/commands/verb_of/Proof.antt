@@ -1,6 +1,6 @@
 use borrow.Author.Needs.{needs}
 use mathlib.Core.Path.{sym, _∙_}
-use Rattle.words.proofs.VerbLaws.{verb-receive, verb-begin, verb-invoke, verb-result, verb-error, verb-release, verb-table, verb-buffer, verb-other}
+use Rattle.words.proofs.VerbLaws.{verb-receive, verb-begin, verb-invoke, verb-result, verb-error, verb-release, verb-table, verb-buffer, verb-batch, verb-other}
 use Rattle.words.proofs.commands.verb_of.Statement.{statement}
 use Rattle.words.proofs.commands.verb_of.Tie as tie
 use Rattle.words.proofs.commands.verb_of.Reads as reads
@@ -123,17 +123,37 @@ returns-8 c =
     (sym (c .before .before .before .before .is-same7 .ensures) ∙ c .before .before .before .if7 .left)
     (sym (c .before .is-same8 .ensures) ∙ c .if8 .taken))
 
+slice-aggregate-is-same-9 : tie.Need-slice-aggregate-is-same-9
+slice-aggregate-is-same-9 c = search needs
+
+is-same-requires-9 : tie.Need-is-same-requires-9
+is-same-requires-9 c κs = search needs
+
 returns-9 : tie.Need-returns-9
 returns-9 c =
-    sym (verb-other (c .before .before .before .before .before .before .before .before .before .before .before .before .before .before .before .before .before .before .before .before .before .before .before .before .before .args .word .now)
-    (sym (c .before .before .before .before .before .before .before .before .before .before .before .before .before .before .before .before .before .before .before .before .before .before .is-same .ensures) ∙ c .before .before .before .before .before .before .before .before .before .before .before .before .before .before .before .before .before .before .before .before .before .if1 .left)
-    (sym (c .before .before .before .before .before .before .before .before .before .before .before .before .before .before .before .before .before .before .before .is-same2 .ensures) ∙ c .before .before .before .before .before .before .before .before .before .before .before .before .before .before .before .before .before .before .if2 .left)
-    (sym (c .before .before .before .before .before .before .before .before .before .before .before .before .before .before .before .before .is-same3 .ensures) ∙ c .before .before .before .before .before .before .before .before .before .before .before .before .before .before .before .if3 .left)
-    (sym (c .before .before .before .before .before .before .before .before .before .before .before .before .before .is-same4 .ensures) ∙ c .before .before .before .before .before .before .before .before .before .before .before .before .if4 .left)
-    (sym (c .before .before .before .before .before .before .before .before .before .before .is-same5 .ensures) ∙ c .before .before .before .before .before .before .before .before .before .if5 .left)
-    (sym (c .before .before .before .before .before .before .before .is-same6 .ensures) ∙ c .before .before .before .before .before .before .if6 .left)
-    (sym (c .before .before .before .before .is-same7 .ensures) ∙ c .before .before .before .if7 .left)
-    (sym (c .before .is-same8 .ensures) ∙ c .if8 .left))
+    sym (verb-batch (c .before .before .before .before .before .before .before .before .before .before .before .before .before .before .before .before .before .before .before .before .before .before .before .before .before .before .before .before .args .word .now)
+    (sym (c .before .before .before .before .before .before .before .before .before .before .before .before .before .before .before .before .before .before .before .before .before .before .before .before .before .is-same .ensures) ∙ c .before .before .before .before .before .before .before .before .before .before .before .before .before .before .before .before .before .before .before .before .before .before .before .before .if1 .left)
+    (sym (c .before .before .before .before .before .before .before .before .before .before .before .before .before .before .before .before .before .before .before .before .before .before .is-same2 .ensures) ∙ c .before .before .before .before .before .before .before .before .before .before .before .before .before .before .before .before .before .before .before .before .before .if2 .left)
+    (sym (c .before .before .before .before .before .before .before .before .before .before .before .before .before .before .before .before .before .before .before .is-same3 .ensures) ∙ c .before .before .before .before .before .before .before .before .before .before .before .before .before .before .before .before .before .before .if3 .left)
+    (sym (c .before .before .before .before .before .before .before .before .before .before .before .before .before .before .before .before .is-same4 .ensures) ∙ c .before .before .before .before .before .before .before .before .before .before .before .before .before .before .before .if4 .left)
+    (sym (c .before .before .before .before .before .before .before .before .before .before .before .before .before .is-same5 .ensures) ∙ c .before .before .before .before .before .before .before .before .before .before .before .before .if5 .left)
+    (sym (c .before .before .before .before .before .before .before .before .before .before .is-same6 .ensures) ∙ c .before .before .before .before .before .before .before .before .before .if6 .left)
+    (sym (c .before .before .before .before .before .before .before .is-same7 .ensures) ∙ c .before .before .before .before .before .before .if7 .left)
+    (sym (c .before .before .before .before .is-same8 .ensures) ∙ c .before .before .before .if8 .left)
+    (sym (c .before .is-same9 .ensures) ∙ c .if9 .taken))
+
+returns-10 : tie.Need-returns-10
+returns-10 c =
+    sym (verb-other (c .before .before .before .before .before .before .before .before .before .before .before .before .before .before .before .before .before .before .before .before .before .before .before .before .before .before .before .before .args .word .now)
+    (sym (c .before .before .before .before .before .before .before .before .before .before .before .before .before .before .before .before .before .before .before .before .before .before .before .before .before .is-same .ensures) ∙ c .before .before .before .before .before .before .before .before .before .before .before .before .before .before .before .before .before .before .before .before .before .before .before .before .if1 .left)
+    (sym (c .before .before .before .before .before .before .before .before .before .before .before .before .before .before .before .before .before .before .before .before .before .before .is-same2 .ensures) ∙ c .before .before .before .before .before .before .before .before .before .before .before .before .before .before .before .before .before .before .before .before .before .if2 .left)
+    (sym (c .before .before .before .before .before .before .before .before .before .before .before .before .before .before .before .before .before .before .before .is-same3 .ensures) ∙ c .before .before .before .before .before .before .before .before .before .before .before .before .before .before .before .before .before .before .if3 .left)
+    (sym (c .before .before .before .before .before .before .before .before .before .before .before .before .before .before .before .before .is-same4 .ensures) ∙ c .before .before .before .before .before .before .before .before .before .before .before .before .before .before .before .if4 .left)
+    (sym (c .before .before .before .before .before .before .before .before .before .before .before .before .before .is-same5 .ensures) ∙ c .before .before .before .before .before .before .before .before .before .before .before .before .if5 .left)
+    (sym (c .before .before .before .before .before .before .before .before .before .before .is-same6 .ensures) ∙ c .before .before .before .before .before .before .before .before .before .if6 .left)
+    (sym (c .before .before .before .before .before .before .before .is-same7 .ensures) ∙ c .before .before .before .before .before .before .if7 .left)
+    (sym (c .before .before .before .before .is-same8 .ensures) ∙ c .before .before .before .if8 .left)
+    (sym (c .before .is-same9 .ensures) ∙ c .if9 .left))
 
 pub verb-of-spec : {M : Type 1} → statement M
 verb-of-spec =
@@ -163,4 +183,7 @@ verb-of-spec =
     slice-aggregate-is-same-8
     is-same-requires-8
     returns-8
-    returns-9)
+    slice-aggregate-is-same-9
+    is-same-requires-9
+    returns-9
+    returns-10)
