@@ -3,6 +3,7 @@
 //! A line is split into owned words, these make an order, and the order's outcome
 //! makes the lines of the answer.
 
+use crate::batch::{self, Batched, Slot};
 use crate::call::{self, Called};
 use crate::cells;
 use crate::component::{Answer, Component};
@@ -37,6 +38,7 @@ pub struct Bench {
 /// What a line asks for.
 enum Order {
     Receive(Vec<u8>),
+    Batch(Vec<u8>),
     Begin(u8, i8, Vec<u8>),
     Invoke((u8, u8), u8, i8, Vec<u8>),
     Result((u8, u8), i8, Vec<u8>),
@@ -115,6 +117,13 @@ impl Bench {
                 self.table = received.table;
                 lines
             }
+            // "The output is as long as `buffer N` says, cleared beforehand."
+            Order::Batch(records) => {
+                let batched = batch::batch(t, &records, b);
+                let lines = of_batched(&batched);
+                self.table = batched.table;
+                lines
+            }
             Order::Begin(operation, id, p) => {
                 let called = call::begin(t, operation, id, &p, b);
                 // "`value` is printed for a begin that succeeded."
@@ -173,6 +182,7 @@ impl Order {
     fn named(first: &[u8], mut w: Words) -> Result<Order, Misread> {
         Ok(match first {
             b"receive" => Order::Receive(w.hex()?),
+            b"batch" => Order::Batch(w.hex()?),
             b"begin" => Order::Begin(w.octet()?, w.id()?, w.hex()?),
             b"invoke" => Order::Invoke(w.transaction()?, w.octet()?, w.id()?, w.hex()?),
             b"result" => Order::Result(w.transaction()?, w.id()?, w.hex()?),
@@ -282,6 +292,8 @@ fn word(code: u8) -> &'static str {
         26 => "message too long",
         27 => "buffer too short",
         28 => "table damaged",
+        30 => "bad record",
+        31 => "output too short",
         _ => unreachable!("no such code"),
     }
 }
@@ -290,9 +302,35 @@ fn refused(code: u8) -> String {
     format!("refused {code} {}", word(code))
 }
 
+fn verdict(code: u8) -> String {
+    format!("verdict {code} {}", word(code))
+}
+
+/// "The answer is `done 0`, `slots N`, and for each slot in order its `verdict` line
+/// and, if its reply has octets, its `reply` line."
+fn of_batched(batched: &Batched) -> Vec<String> {
+    match batched.code {
+        0 => {
+            let count = format!("slots {}", batched.slots.len());
+            let slots = batched.slots.iter().flat_map(of_slot);
+            ["done 0".to_string(), count]
+                .into_iter()
+                .chain(slots)
+                .collect()
+        }
+        code => vec![refused(code)],
+    }
+}
+
+fn of_slot(slot: &Slot) -> Vec<String> {
+    let mut lines = vec![verdict(slot.verdict)];
+    lines.extend(written("reply", &slot.reply));
+    lines
+}
+
 fn of_received(received: &Received) -> Vec<String> {
     let first = match received.code {
-        code @ 0..=7 => format!("verdict {code} {}", word(code)),
+        code @ 0..=7 => verdict(code),
         code => refused(code),
     };
     let mut lines = vec![first];

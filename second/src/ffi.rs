@@ -62,6 +62,13 @@ pub struct Called {
 
 #[repr(C)]
 #[derive(Clone, Copy, Debug, Default, PartialEq, Eq)]
+pub struct Batched {
+    pub code: u8,
+    pub slots: usize,
+}
+
+#[repr(C)]
+#[derive(Clone, Copy, Debug, Default, PartialEq, Eq)]
 pub struct Laid {
     pub code: u8,
     pub characters: usize,
@@ -77,6 +84,15 @@ extern "C" {
         reply: *mut u8,
         reply_length: usize,
     ) -> Received;
+
+    fn smr_batch(
+        table: *mut u8,
+        table_length: usize,
+        records: *const u8,
+        records_length: usize,
+        output: *mut u8,
+        output_length: usize,
+    ) -> Batched;
 
     fn smr_begin(
         table: *mut u8,
@@ -158,6 +174,43 @@ pub fn receive(table: &mut [u8], message: &[u8], reply: &mut [u8]) -> Received {
             message.len(),
             reply.as_mut_ptr(),
             reply.len(),
+        )
+    }
+}
+
+pub fn batch(table: &mut [u8], records: &[u8], output: &mut [u8]) -> Batched {
+    // SAFETY: as in `receive`.
+    unsafe {
+        smr_batch(
+            table.as_mut_ptr(),
+            table.len(),
+            records.as_ptr(),
+            records.len(),
+            output.as_mut_ptr(),
+            output.len(),
+        )
+    }
+}
+
+/// The same, each slice of length 0 lent as NULL.
+pub fn batch_with_null(table: &mut [u8], records: &[u8], output: &mut [u8]) -> Batched {
+    let lent = |slice: &mut [u8]| match slice {
+        [] => std::ptr::null_mut(),
+        _ => slice.as_mut_ptr(),
+    };
+    let octets = match records {
+        [] => std::ptr::null(),
+        _ => records.as_ptr(),
+    };
+    // SAFETY: as in `receive`; "NULL is allowed where the length is 0".
+    unsafe {
+        smr_batch(
+            lent(table),
+            table.len(),
+            octets,
+            records.len(),
+            lent(output),
+            output.len(),
         )
     }
 }

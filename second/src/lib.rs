@@ -5,6 +5,7 @@
 //! and changes nothing that it was lent. `ffi` calls the proved archives.
 
 pub mod alphabet;
+pub mod batch;
 pub mod bench;
 pub mod call;
 pub mod cells;
@@ -23,5 +24,6 @@ pub mod table;
 pub mod view;
 pub mod write;
 
+pub use batch::{batch, Batched};
 pub use call::{begin, error, invoke, release, result, Called};
 pub use receive::{receive, Received};

@@ -1,5 +1,6 @@
 //! Our outcomes in the form of the C structs: parts as places, 0 for none.
 
+use crate::batch::Batched;
 use crate::call::Called;
 use crate::cells::Laid;
 use crate::component::{Answer, Component};
@@ -107,6 +108,15 @@ impl From<&Called> for ffi::Called {
             code: called.code,
             value: called.value,
             written: called.message.len(),
+        }
+    }
+}
+
+impl From<&Batched> for ffi::Batched {
+    fn from(batched: &Batched) -> ffi::Batched {
+        ffi::Batched {
+            code: batched.code,
+            slots: batched.slots.len(),
         }
     }
 }

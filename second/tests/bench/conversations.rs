@@ -8,11 +8,13 @@ use crate::messages;
 use crate::occurrences::Occurrences;
 use crate::proved::compare;
 use crate::rare;
+use crate::records;
 use crate::tables;
 use crate::talk::Talk;
 use crate::waiting::grown;
 use crate::wishes;
 use crate::writing::{self, blanks, with_octets};
+use second::batch::SLOT;
 
 const CONVERSATIONS: u64 = 24;
 const LINES: usize = 10_000;
@@ -48,8 +50,9 @@ fn conversation(seed: u64) -> Talk {
                 talk.say(writing::spoiled(&mut c, &line));
             }
             16 if c.one_in(2) => talk.say(over(&mut c)),
-            17..=32 => rare_call(&mut c, &mut talk, grows),
-            33..=60 if grows => grow(&mut c, &mut talk),
+            17..=18 => batch(&mut c, &mut talk),
+            19..=34 => rare_call(&mut c, &mut talk, grows),
+            35..=62 if grows => grow(&mut c, &mut talk),
             _ => one_call(&mut c, &mut talk),
         }
     }
@@ -71,6 +74,9 @@ fn call(c: &mut Chance, talk: &Talk) -> Call {
 }
 
 fn line(c: &mut Chance, talk: &Talk) -> Vec<u8> {
+    if c.one_in(20) {
+        return batch_line(c, talk, 2);
+    }
     let call = call(c, talk);
     writing::line(c, &call)
 }
@@ -78,6 +84,28 @@ fn line(c: &mut Chance, talk: &Talk) -> Vec<u8> {
 fn one_call(c: &mut Chance, talk: &mut Talk) {
     let call = call(c, talk);
     talk.call(c, &call);
+}
+
+/// Recorded messages, sound or spoiled.
+fn batch_line(c: &mut Chance, talk: &Talk, count: usize) -> Vec<u8> {
+    let messages = records::conversation(c, talk.sound(), count);
+    let records = match c.one_in(4) {
+        true => records::spoiled(c, &messages),
+        false => records::records(&messages),
+    };
+    writing::batch(c, &records)
+}
+
+/// A batch, often with a buffer at the edge of what its slots need.
+fn batch(c: &mut Chance, talk: &mut Talk) {
+    let count = c.pick(&[0, 1, 1, 2, 2, 3, 4, 5, 6, 18, 19, 21, 22]);
+    let line = batch_line(c, talk, count);
+    if c.flip() {
+        let room = (SLOT * count + c.below(3)).saturating_sub(1);
+        talk.say(format!("buffer {room}"));
+    }
+    talk.say(line);
+    talk.say(c.pick(&["buffer 300", "buffer 255"]));
 }
 
 fn table(c: &mut Chance, image: &[u8]) -> Vec<u8> {
@@ -111,7 +139,10 @@ fn damage(c: &mut Chance, talk: &mut Talk) {
     };
     talk.say(table(c, &image));
     for _ in 0..c.range(1, 3) {
-        one_call(c, talk);
+        match c.one_in(6) {
+            true => talk.say(batch_line(c, talk, 1)),
+            false => one_call(c, talk),
+        }
         // A line without octets sets none.
         if talk.table() == image {
             talk.met.extend(met);
@@ -168,6 +199,7 @@ fn passed_over(c: &mut Chance) -> Vec<u8> {
 fn over(c: &mut Chance) -> Vec<u8> {
     let words = c.pick(&[
         "receive",
+        "batch",
         "table",
         "begin 59 1",
         "invoke 0 0 59 1",

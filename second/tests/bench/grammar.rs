@@ -13,6 +13,7 @@ const LINES: &[(&str, &str)] = &[
     ("fresh", "receive 0B 3c"),
     ("own59", "receive 8B2A 0802E09D 1C08A406020163810100"),
     ("fresh", "receive"),
+    ("fresh", "batch 01 0b"),
     ("fresh", "begin 59 1 300604010F040141"),
     ("own59", "begin 17 -128 04 01 92"),
     ("open", "invoke 0 0 17 -1 040192"),

@@ -33,6 +33,8 @@ mod parameters;
 mod passwords;
 #[path = "../compare/rare.rs"]
 mod rare;
+#[path = "../compare/records.rs"]
+mod records;
 #[path = "../compare/report.rs"]
 mod report;
 #[path = "../compare/tables.rs"]
@@ -44,6 +46,7 @@ mod waiting;
 #[path = "../compare/wishes.rs"]
 mod wishes;
 
+mod batch;
 mod cells;
 mod conversations;
 mod each_code;

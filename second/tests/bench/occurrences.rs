@@ -32,6 +32,8 @@ const NAMED: &[&str] = &[
     "refused 26 message too long",
     "refused 27 buffer too short",
     "refused 28 table damaged",
+    "refused 30 bad record",
+    "refused 31 output too short",
     "done 0",
     "invoke",
     "result",
@@ -43,6 +45,8 @@ const NAMED: &[&str] = &[
     "code",
     "problem",
     "value",
+    "slots 0",
+    "slots",
     "parameter",
     "scheme",
     "string",
@@ -115,7 +119,8 @@ fn kind(line: &[u8]) -> String {
     match (first, rest) {
         ("", _) => "going on".to_string(),
         ("verdict" | "refused" | "done", _) => line.to_string(),
-        ("reject", "none") | ("table", "set") | ("lines", "1") => line.to_string(),
+        ("reject", "none") | ("table", "set") => line.to_string(),
+        ("lines", "1") | ("slots", "0") => line.to_string(),
         ("tail" | "cause", "") => format!("{first} alone"),
         // Behind the line's number.
         ("line", _) => rest.split_once(' ').unwrap_or_default().1.to_string(),

@@ -3,8 +3,9 @@
 use crate::chance::Chance;
 use crate::proved::compare;
 
-const WITH_HEX: [&str; 6] = [
+const WITH_HEX: [&str; 7] = [
     "receive",
+    "batch",
     "begin 59 1",
     "invoke 0 0 59 1",
     "result 0 0 5",
@@ -101,6 +102,8 @@ fn octets_of_a_line() {
             filled("", "\t", "receive 0B3C"),
             filled("receive ", "0", ""),
             filled("receive ", "Z", ""),
+            filled("batch ", " ", "010B"),
+            filled("batch ", "0", ""),
             filled("table ", "0", ""),
             filled("buffer ", "0", "12"),
             filled("buffer ", "0", "301"),
@@ -181,10 +184,10 @@ fn noise() {
 /// Noise of what lines are made of, so that many are understood by half.
 #[test]
 fn noise_of_words() {
-    const PIECES: [&str; 30] = [
-        "receive ", "begin ", "invoke ", "result ", "error ", "release ", "table ", "buffer ", "0",
-        "1", "5", "59", "255", "-", "0B", "3b", "1C", "A1", "30", "04", " ", " ", "\t", "\r", "#",
-        "\n", "\n", "\n", "\n", "x",
+    const PIECES: [&str; 31] = [
+        "receive ", "batch ", "begin ", "invoke ", "result ", "error ", "release ", "table ",
+        "buffer ", "0", "1", "5", "59", "255", "-", "0B", "3b", "1C", "A1", "30", "04", " ", " ",
+        "\t", "\r", "#", "\n", "\n", "\n", "\n", "x",
     ];
     let mut c = Chance::new(43);
     let mut input = Vec::new();

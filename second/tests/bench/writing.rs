@@ -33,6 +33,11 @@ pub fn line(c: &mut Chance, call: &Call) -> Vec<u8> {
     with_octets(c, &words, octets)
 }
 
+/// Records as a line.
+pub fn batch(c: &mut Chance, records: &[u8]) -> Vec<u8> {
+    with_octets(c, &["batch".to_string()], records)
+}
+
 /// These words, and octets behind them.
 pub fn with_octets(c: &mut Chance, words: &[String], octets: &[u8]) -> Vec<u8> {
     let plain = !c.one_in(8);

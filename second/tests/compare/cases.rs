@@ -1,6 +1,7 @@
-//! The cases of firmware/cases.txt and of four.txt, with their expected facts: on both,
-//! those of four.txt on the second program alone too.
+//! The cases of firmware/cases.txt, of four.txt and of batch.txt, with their expected
+//! facts: on both, those of the last two on the second program alone too.
 
+use crate::batch;
 use crate::both::{compare, on_second, pattern, Call, Facts, Named};
 use crate::notation::octets;
 use crate::tables::{self, Entry, ENTRY};
@@ -11,8 +12,25 @@ const FILE: &str = concat!(env!("CARGO_MANIFEST_DIR"), "/../firmware/cases.txt")
 /// The readings of "Four questions at once", by their numbers.
 const FOUR: &str = include_str!("four.txt");
 
-/// What runs a case: from this table, with a buffer of this length.
-type Run = fn(&[u8], &Call, usize) -> Facts;
+/// The readings of "A morning's messages in one call".
+const BATCH: &str = include_str!("batch.txt");
+
+/// What runs a case: a call from this table, with a buffer of this length; or a batch.
+#[derive(Clone, Copy)]
+struct Run {
+    call: fn(&[u8], &Call, usize) -> Facts,
+    batch: batch::cases::Run,
+}
+
+const ON_BOTH: Run = Run {
+    call: compare,
+    batch: batch::compare,
+};
+
+const ON_SECOND: Run = Run {
+    call: |table, call, room| on_second(table, call, pattern(room)),
+    batch: batch::on_second,
+};
 
 struct Case {
     call: Call,
@@ -25,18 +43,27 @@ struct Case {
 #[test]
 fn cases() {
     let text = std::fs::read_to_string(FILE).expect("the case file");
-    assert!(run(&text, compare) > 100, "the cases are there");
+    assert!(run(&text, ON_BOTH) > 100, "the cases are there");
 }
 
 #[test]
 fn four() {
-    assert!(run(FOUR, compare) > 50, "the cases are there");
+    assert!(run(FOUR, ON_BOTH) > 50, "the cases are there");
 }
 
 #[test]
 fn four_on_the_second_alone() {
-    let alone: Run = |table, call, room| on_second(table, call, pattern(room));
-    run(FOUR, alone);
+    run(FOUR, ON_SECOND);
+}
+
+#[test]
+fn batch() {
+    assert!(run(BATCH, ON_BOTH) > 30, "the cases are there");
+}
+
+#[test]
+fn batch_on_the_second_alone() {
+    run(BATCH, ON_SECOND);
 }
 
 /// Runs all lines; how many there are.
@@ -51,17 +78,25 @@ fn run(text: &str, run: Run) -> usize {
 fn run_line(line: &str, run: Run) -> bool {
     let (left, facts) = line.split_once("->").expect("an arrow");
     let words: Vec<&str> = left.split_whitespace().collect();
-    let case = read_case(&words[1..]);
-    let outcome = run(&case.table, &case.call, case.room);
+    let held = match words[1] {
+        "batch" => batch::cases::holds(&words[2..], facts, run.batch),
+        _ => call_holds(&words[1..], facts, run),
+    };
+    if !held {
+        println!("| case {}", words[0]);
+    }
+    held
+}
+
+fn call_holds(words: &[&str], facts: &str, run: Run) -> bool {
+    let case = read_case(words);
+    let outcome = (run.call)(&case.table, &case.call, case.room);
     let mut facts = facts.split(',').map(str::trim);
     let code = facts.next().expect("a code");
     let mut held = outcome.code().to_string() == code;
     for fact in facts {
         let (name, wanted) = fact.split_once('=').expect("name=wanted");
         held &= holds(name, wanted, &case, &outcome);
-    }
-    if !held {
-        println!("| case {}", words[0]);
     }
     held
 }
@@ -92,7 +127,7 @@ fn read_case(words: &[&str]) -> Case {
 
 /// A table, and the words behind it: its name; zeros(N); or one entry, all others
 /// closed, o0= or n0= and its octets with blanks between them.
-fn read_table<'a>(words: &'a [&'a str]) -> (Vec<u8>, &'a [&'a str]) {
+pub fn read_table<'a>(words: &'a [&'a str]) -> (Vec<u8>, &'a [&'a str]) {
     let (first, mut rest) = words.split_first().expect("a table");
     if first.starts_with("zeros(") {
         return (octets(first), rest);
@@ -146,10 +181,6 @@ fn holds(name: &str, wanted: &str, case: &Case, facts: &Facts) -> bool {
     match name {
         "reply" => facts.reply() == octets(wanted),
         "length" => facts.received.written.to_string() == wanted,
-        "entry" => entry(case, facts)[..] == octets(wanted),
-        "own" => tables::owns_of(&entry(case, facts)) == tables::invokes(wanted),
-        "peers" => tables::peers_of(&entry(case, facts)) == tables::invokes(wanted),
-        "open" => (entry(case, facts)[0] != 0) == (wanted == "True"),
         "kept" => (facts.table == case.table) == (wanted == "True"),
         "value" => facts.value.to_string() == wanted,
         "id" => number(shown.has_id, shown.id.into()),
@@ -165,6 +196,17 @@ fn holds(name: &str, wanted: &str, case: &Case, facts: &Facts) -> bool {
         "cause" if wanted == "none" => cause.is_there == 0,
         "cause" => cause.is_there == 1 && part(cause.contents),
         "shows" => shown.kind == kind(wanted),
+        _ => entry_holds(name, wanted, &entry(case, facts)),
+    }
+}
+
+/// What is said of an entry: its image, what waits in it, whether it is open.
+pub fn entry_holds(name: &str, wanted: &str, entry: &Entry) -> bool {
+    match name {
+        "entry" => entry[..] == octets(wanted),
+        "own" => tables::owns_of(entry) == tables::invokes(wanted),
+        "peers" => tables::peers_of(entry) == tables::invokes(wanted),
+        "open" => (entry[0] != 0) == (wanted == "True"),
         _ => false,
     }
 }

@@ -1,8 +1,9 @@
 //! The proved archives and the second program, compared call by call.
 //!
-//! Each module is one idea: `both` runs a call on the two and compares them, `cells`
-//! does so for text on forty cells, the others bring the calls.
+//! Each module is one idea: `both` runs a call on the two and compares them, `batch` a
+//! batch, `cells` does so for text on forty cells, the others bring the calls.
 
+mod batch;
 mod both;
 mod call;
 mod calls;
@@ -30,6 +31,7 @@ mod notation;
 mod parameters;
 mod passwords;
 mod rare;
+mod records;
 mod report;
 mod short;
 mod small;
