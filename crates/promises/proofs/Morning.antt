@@ -2,14 +2,14 @@
 use Prim.Native.Nat.{ℕ, zero, suc, _+_, _-_, _*_, _≤_, _<_}
 use mathlib.Core.Path.{_≡_, refl, sym, ap, subst, _∙_}
 use mathlib.Core.List.{List, [], _∷_, _++_, append-assoc}
-use mathlib.Core.Bool.{Bool, true, false, _||_, false≢true}
+use mathlib.Core.Bool.{Bool, true, false, false≢true}
 use native.Mathlib.Omega.{arith}
 use lib.ListN.{length, getD, take, drop, replicate, length-append, length-drop}
 use lib.Seq.{drop-drop}
 use lib.Dec.{leb, eqb}
 use borrow.Author.Tests.{le-leb, lt-leb, leb-true, leb-false}
 use Rattle.octets.specs.Octets.{Octets}
-use Rattle.octets.specs.Reader.{Answer, fault, sound, andThen, check}
+use Rattle.octets.specs.Reader.{Answer, fault, sound}
 use Rattle.octets.specs.Splice.{splice}
 use Rattle.octets.proofs.FaultLaws.{Faults, then-faults, check-faults}
 use Rattle.octets.proofs.ReaderLaws.{sound-inj, not-sound, through}
@@ -24,10 +24,10 @@ use Rattle.deciding.proofs.StepLaws.{by-type, further, decide-further}
 use Rattle.telephone.specs.Outcome.{Outcome}
 use Rattle.telephone.specs.Receive.{verdictOf, sentBy, act, receive}
 use Rattle.telephone.specs.History.{outcomes, tableAfter}
-use Rattle.telephone.specs.Batch.{fed, slotLength, slot, slots, Batch, toFeed, feed, batch}
+use Rattle.telephone.specs.Batch.{fed, slot, slotsOf, Batch, toFeed, batchOf, batch}
 use Rattle.telephone.proofs.OutcomeLaws.{front-is, behind-stays, sent-room}
 use Rattle.telephone.proofs.BatchLaws.{slots-length, to-feed}
-use Rattle.promises.specs.Morning.{Fit, unchanged, Answered, damaged, bad, noRoom, isFed, EveryBatch, Lent, receives, messagesOf, Roomy, told, allTold, FedAs, OneByOne, secondly, inOne, TwoAreOne, OneIsTwo, isSlotVerdict, SlotVerdicts, StaysSound, Morning}
+use Rattle.promises.specs.Morning.{Fit, Answered, damaged, bad, noRoom, isFed, EveryBatch, Lent, receives, messagesOf, Roomy, told, allTold, OneByOne, secondly, inOne, TwoAreOne, OneIsTwo, isSlotVerdict, SlotVerdicts, StaysSound, Morning}
 use Rattle.promises.proofs.IsOctets.{octets-front, octets-behind}
 use Rattle.promises.proofs.Silence.{isLoud, four-loud}
 use Rattle.promises.proofs.NeverDamaged.{SoundOctets, receive-sound}
@@ -43,9 +43,9 @@ filled-fit [] o h = tt
 filled-fit (m ∷ row) o h = let l = o .0 in ((h .0, omega arith), filled-fit row (octets-behind m (recordsOf row) (o .1)) (h .1))
 
 module _ (t s o : List ℕ) where
-  answers : (found : Answer (List (List ℕ))) → toFeed t s (length o) ≡ found → batch t s o ≡ feed t o found
+  answers : (found : Answer (List (List ℕ))) → toFeed t s (length o) ≡ found → batch t s o ≡ batchOf t o found
   unfolding batch
-  answers found e = ap (feed t o) e
+  answers found e = ap (batchOf t o) e
 
   damaged-is : valid t ≡ false → toFeed t s (length o) ≡ fault 28
   unfolding toFeed
@@ -116,8 +116,8 @@ module _ (t m b : List ℕ) where
   unfolding receive fed
   agrees h = rw (same-decision t m (length b) h) (acted (decide t m 12))
 
-all-agree : (t : List ℕ) (row : List Lent) → Roomy row → (tableAfter receives t row ≡ tableAfter fed t (messagesOf row)) × (allTold (outcomes receives t row) ≡ slots (outcomes fed t (messagesOf row)))
-unfolding outcomes tableAfter slots
+all-agree : (t : List ℕ) (row : List Lent) → Roomy row → (tableAfter receives t row ≡ tableAfter fed t (messagesOf row)) × (allTold (outcomes receives t row) ≡ slotsOf (outcomes fed t (messagesOf row)))
+unfolding outcomes tableAfter slotsOf
 all-agree t [] h = (refl, refl)
 all-agree t (l ∷ row) h =
     let a = agrees t (l .message) (l .buffer) (h .0) in
@@ -133,10 +133,10 @@ pub one-by-one : OneByOne
 one-by-one t o row v f r h =
     let messages = messagesOf row in
     let n : length messages ≡ length row = same-length row in
-    let s = slots (outcomes fed t messages) in
+    let s = slotsOf (outcomes fed t messages) in
     let k : length s ≡ 14 * length row = slots-length t messages ∙ ap (λ (j : ℕ). 14 * j) n in
     let a = all-agree t row r in
-    let e : batch t (recordsOf messages) o ≡ feed t o (sound messages) = answers t (recordsOf messages) o (sound messages) (fed-is t (recordsOf messages) o v messages (messages-back messages (fit-filled messages f)) (rw n h)) in
+    let e : batch t (recordsOf messages) o ≡ batchOf t o (sound messages) = answers t (recordsOf messages) o (sound messages) (fed-is t (recordsOf messages) o v messages (messages-back messages (fit-filled messages f)) (rw n h)) in
     rw e
     record {
       code = refl;
@@ -159,10 +159,10 @@ module _ {Step : Type 0} (does : List ℕ → Step → Outcome) where
   outcomes-append t [] b = refl
   outcomes-append t (x ∷ a) b = ap (λ (l : List Outcome). does t x ∷ l) (outcomes-append (does t x .table) a b)
 
-slots-append : (a b : List Outcome) → slots (a ++ b) ≡ slots a ++ slots b
-unfolding slots
+slots-append : (a b : List Outcome) → slotsOf (a ++ b) ≡ slotsOf a ++ slotsOf b
+unfolding slotsOf
 slots-append [] b = refl
-slots-append (x ∷ a) b = ap (λ (l : List ℕ). slot x ++ l) (slots-append a b) ∙ sym (append-assoc (slot x) (slots a) (slots b))
+slots-append (x ∷ a) b = ap (λ (l : List ℕ). slot x ++ l) (slots-append a b) ∙ sym (append-assoc (slot x) (slotsOf a) (slotsOf b))
 
 -- a batch that is fed has its messages
 numbered : (t s : List ℕ) (room : ℕ) → Faults (λ n. n ≡ 0 → ⊥) (toFeed t s room)
@@ -180,28 +180,28 @@ fed-row : (C : Type 0) (t s o : List ℕ) → batch t s o .code ≡ 0 → ((row 
 unfolding batch
 fed-row C t s o e next = go (toFeed t s (length o)) refl (numbered t s (length o)) e
   where
-    go : (found : Answer (List (List ℕ))) → toFeed t s (length o) ≡ found → Faults (λ n. n ≡ 0 → ⊥) found → feed t o found .code ≡ 0 → C
+    go : (found : Answer (List (List ℕ))) → toFeed t s (length o) ≡ found → Faults (λ n. n ≡ 0 → ⊥) found → batchOf t o found .code ≡ 0 → C
     go (fault n) q h z = absurd (h z)
     go (sound row) q h z = next row q
 
 -- what the second batch is lent
 module _ (t o : List ℕ) (one : List (List ℕ)) (h : 14 * length one ≤ length o) where
   abbrev behindSlots : List ℕ
-  behindSlots = drop (14 * length one) (splice o 0 (slots (outcomes fed t one)))
+  behindSlots = drop (14 * length one) (splice o 0 (slotsOf (outcomes fed t one)))
 
   behind-length : length behindSlots ≡ length o - 14 * length one
   behind-length =
       let k = slots-length t one in
-      length-drop (14 * length one) (splice o 0 (slots (outcomes fed t one))) ∙ ap (λ (n : ℕ). n - 14 * length one) (length-splice o 0 (slots (outcomes fed t one)) (omega arith))
+      length-drop (14 * length one) (splice o 0 (slotsOf (outcomes fed t one))) ∙ ap (λ (n : ℕ). n - 14 * length one) (length-splice o 0 (slotsOf (outcomes fed t one)) (omega arith))
 
   one-output : (two : List (List ℕ))
-      → splice o 0 (slots (outcomes fed t (one ++ two)))
-      ≡ take (14 * length one) (splice o 0 (slots (outcomes fed t one))) ++ splice behindSlots 0 (slots (outcomes fed (tableAfter fed t one) two))
+      → splice o 0 (slotsOf (outcomes fed t (one ++ two)))
+      ≡ take (14 * length one) (splice o 0 (slotsOf (outcomes fed t one))) ++ splice behindSlots 0 (slotsOf (outcomes fed (tableAfter fed t one) two))
   one-output two =
-      let a = slots (outcomes fed t one) in
-      let b = slots (outcomes fed (tableAfter fed t one) two) in
+      let a = slotsOf (outcomes fed t one) in
+      let b = slotsOf (outcomes fed (tableAfter fed t one) two) in
       let k : length a ≡ 14 * length one = slots-length t one in
-      let x : slots (outcomes fed t (one ++ two)) ≡ a ++ b = ap slots (outcomes-append fed t one two) ∙ slots-append (outcomes fed t one) (outcomes fed (tableAfter fed t one) two) in
+      let x : slotsOf (outcomes fed t (one ++ two)) ≡ a ++ b = ap slotsOf (outcomes-append fed t one two) ∙ slots-append (outcomes fed t one) (outcomes fed (tableAfter fed t one) two) in
       let r : a ++ splice (drop (length a) o) 0 b ≡ splice o 0 (a ++ b) =
       ap (λ (l : List ℕ). a ++ l) (splice-front (drop (length a) o) b ∙ ap (λ (l : List ℕ). b ++ l) (drop-drop (length b) (length a) o))
       ∙ sym (append-assoc a b (drop (length a + length b) o))
@@ -210,9 +210,9 @@ module _ (t o : List ℕ) (one : List (List ℕ)) (h : 14 * length one ≤ lengt
       rw (← k, x, front-is o a, behind-stays o a) (sym r)
 
 joined : (t first second o : List ℕ) (one two : List (List ℕ)) → toFeed t first (length o) ≡ sound one
-    → toFeed (tableAfter fed t one) second (length (drop (14 * length one) (splice o 0 (slots (outcomes fed t one))))) ≡ sound two
+    → toFeed (tableAfter fed t one) second (length (drop (14 * length one) (splice o 0 (slotsOf (outcomes fed t one))))) ≡ sound two
     → batch t (first ++ second) o
-    ≡ inOne (feed t o (sound one)) (feed (tableAfter fed t one) (drop (14 * length one) (splice o 0 (slots (outcomes fed t one)))) (sound two))
+    ≡ inOne (batchOf t o (sound one)) (batchOf (tableAfter fed t one) (drop (14 * length one) (splice o 0 (slotsOf (outcomes fed t one)))) (sound two))
 joined t first second o one two e g =
     let a = to-feed t first (length o) one e in
     let b = to-feed (tableAfter fed t one) second _ two g in
@@ -232,8 +232,8 @@ two-are-one t first second o p q =
     subst (λ (a : Batch). secondly a second .code ≡ 0 → batch t (first ++ second) o ≡ inOne a (secondly a second)) (sym (answers t first o (sound one) e))
     (λ r.
     let t′ = tableAfter fed t one in
-    let o′ = drop (14 * length one) (splice o 0 (slots (outcomes fed t one))) in
-    fed-row (batch t (first ++ second) o ≡ inOne (feed t o (sound one)) (batch t′ second o′)) t′ second o′ r λ two g. rw (answers t′ second o′ (sound two) g) (joined t first second o one two e g))
+    let o′ = drop (14 * length one) (splice o 0 (slotsOf (outcomes fed t one))) in
+    fed-row (batch t (first ++ second) o ≡ inOne (batchOf t o (sound one)) (batch t′ second o′)) t′ second o′ r λ two g. rw (answers t′ second o′ (sound two) g) (joined t first second o one two e g))
     q
 
 -- each verdict is one of 01's, and the table stays sound
@@ -288,7 +288,7 @@ one-is-two t second o row x y f c =
     let h : 14 * length row ≤ length o = omega arith in
     let l = behind-length t o row h in
     let t′ = tableAfter fed t row in
-    let o′ = drop (14 * length row) (splice o 0 (slots (outcomes fed t row))) in
+    let o′ = drop (14 * length row) (splice o 0 (slotsOf (outcomes fed t row))) in
     let b = answers t′ second o′ (sound two) (fed-is t′ second o′ (stays-sound t row x y f (w .0) .1) two p (rw l (omega arith))) in
     rw (answers t (recordsOf row) o (sound row) (fed-is t (recordsOf row) o (w .0) row (messages-back row (fit-filled row f)) h))
     (refl, ap (λ (z : Batch). z .code) b)

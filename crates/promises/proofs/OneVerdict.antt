@@ -5,12 +5,11 @@ use mathlib.Core.List.{List}
 use mathlib.Core.Bool.{true, false≢true}
 use mathlib.Core.Option.{Option, some}
 use native.Mathlib.Omega.{arith}
-use lib.IntN.{ℤ}
 use lib.ListN.{length}
 use Rattle.octets.specs.Reader.{Answer, fault, sound}
 use Rattle.octets.proofs.ReaderLaws.{through, passed}
 use Rattle.messages.specs.Layout.{sentFirst, releaseEmpty as released-octets}
-use Rattle.table.specs.Table.{size, closed, named, entryAt, withEntry, valid, lowestClosed, holds}
+use Rattle.table.specs.Table.{size, closed, named, entryAt, withEntry, valid, lowestClosed}
 use Rattle.table.specs.Change.{closes as toClosed, changed, withChange}
 use Rattle.table.proofs.ChangeLaws.{closes-holds}
 use Rattle.table.proofs.TableLaws.{read-written, open-written, others-stay, fits-at}

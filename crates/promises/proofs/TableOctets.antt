@@ -1,6 +1,6 @@
 -- What a message leaves in a table of octets is octets.
 use Prim.Native.Nat.{ℕ, zero, suc, _+_, _*_, _<_}
-use mathlib.Core.Path.{_≡_, sym, ap}
+use mathlib.Core.Path.{_≡_}
 use mathlib.Core.List.{List, [], _∷_, _++_}
 use mathlib.Core.Bool.{Bool, true, false, cond, not, _&&_}
 use native.Mathlib.Omega.{arith}
@@ -15,10 +15,10 @@ use Rattle.codes.specs.Operations.{begins, waits}
 use Rattle.codes.proofs.IdLaws.{id-octet}
 use Rattle.sides.specs.Side.{Waiting, places, isEmpty, eachListed, noneTwice, holdsSide, sideOctets}
 use Rattle.sides.proofs.SideLaws.{Ids}
-use Rattle.table.specs.Table.{Entry, size, entryAt, valid, holds, stateOf, entryOctets, withEntry}
-use Rattle.table.specs.Change.{Change, closes, changed, withChange, CanChange}
+use Rattle.table.specs.Table.{Entry, size, entryAt, holds, stateOf, entryOctets, withEntry}
+use Rattle.table.specs.Change.{Change, changed, withChange, CanChange}
 use Rattle.table.proofs.TableLaws.{holds-parts, ids-at, fits-at}
-use Rattle.table.proofs.ChangeLaws.{SaidIn, changed-ids, closes-holds}
+use Rattle.table.proofs.ChangeLaws.{SaidIn, changed-ids}
 
 begins-octet : (o : ℕ) → begins o ≡ true → o < 256
 begins-octet o h =

@@ -5,12 +5,12 @@ use mathlib.Core.List.{List, [], _∷_, _++_}
 use mathlib.Core.Bool.{true, false}
 use native.Mathlib.Omega.{arith}
 use native.Mathlib.Numerals.{add-one}
-use lib.ListN.{length, take, drop, set, getD, replicate, length-append, length-drop, length-set, drop-of-length-le}
+use lib.ListN.{length, drop, set, getD, replicate, length-append, length-drop, length-set, drop-of-length-le}
 use lib.Seq.{drop-drop, drop-set-lt, take-suc-set, append-snoc, getD-drop, take-at, drop-at, paste-zero}
 use lib.Dec.{leb}
 use borrow.Author.Tests.{le-leb, lt-leb, leb-true}
 use Rattle.octets.specs.Part.{between}
-use Rattle.octets.specs.Reader.{Answer, fault, sound, Taken, took, andThen}
+use Rattle.octets.specs.Reader.{Answer, fault, sound, took, andThen}
 use Rattle.octets.specs.Splice.{splice}
 use Rattle.octets.proofs.ReaderLaws.{sound-inj, not-sound, through, passed}
 use Rattle.octets.proofs.SpliceLaws.{splice-splice, length-splice, whole as wholly}
@@ -21,7 +21,7 @@ use Rattle.deciding.specs.Steps.{decide}
 use Rattle.telephone.specs.Outcome.{Outcome}
 use Rattle.telephone.specs.Receive.{sentBy, act, receive}
 use Rattle.telephone.specs.History.{outcomes, tableAfter}
-use Rattle.telephone.specs.Batch.{fed, slotLength, slot, slots, toFeed, feed, batch}
+use Rattle.telephone.specs.Batch.{fed, slotLength, slot, slotsOf, toFeed, batchOf, batch}
 use Rattle.telephone.specs.Feeding.{IsRecord, CanFeed, FedOutput, FedTable}
 use Rattle.telephone.specs.FromC.{batchedOf, refusedBatch}
 use Rattle.telephone.specs.declared.batch.Batched.{Batched}
@@ -56,11 +56,11 @@ module _ (t m : List ℕ) where
   pub slot-length : length (slot (fed t m)) ≡ 14
   slot-length = rw fed-buffer
 
-pub slots-length : (t : List ℕ) (row : List (List ℕ)) → length (slots (outcomes fed t row)) ≡ slotLength * length row
-unfolding outcomes slots
+pub slots-length : (t : List ℕ) (row : List (List ℕ)) → length (slotsOf (outcomes fed t row)) ≡ slotLength * length row
+unfolding outcomes slotsOf
 slots-length t [] = omega arith
 slots-length t (m ∷ row) =
-    let e = length-append (slot (fed t m)) (slots (outcomes fed (fed t m .table) row)) in
+    let e = length-append (slot (fed t m)) (slotsOf (outcomes fed (fed t m .table) row)) in
     let k = slots-length (fed t m .table) row in
     let l = slot-length t m in
     e ∙ omega arith
@@ -92,7 +92,7 @@ pub record Feeding (table₀ records output₀ table output : List ℕ) (i at : 
   pub room : at + slotLength * length left ≤ length output
   pub as-long : length output ≡ length output₀
   pub table-as-long : length table ≡ length table₀
-  pub output-is : splice output at (slots (outcomes fed table left)) ≡ splice output₀ 0 (slots (outcomes fed table₀ all))
+  pub output-is : splice output at (slotsOf (outcomes fed table left)) ≡ splice output₀ 0 (slotsOf (outcomes fed table₀ all))
   pub table-is : tableAfter fed table left ≡ tableAfter fed table₀ all
 
 pub feeding-first : (table records output : List ℕ) → CanFeed records (length output) → Feeding table records output table output 0 0
@@ -133,12 +133,12 @@ module _ {table₀ records output₀ table output : List ℕ} {i at : ℕ} (f : 
 
     pub feeding-step : (table′ output′ : List ℕ) (next : ℕ) → table′ ≡ fed table m .table → output′ ≡ splice output at (slot (fed table m)) → length table′ ≡ length table
         → length output′ ≡ length output → next ≡ i + 1 + length m → Feeding table₀ records output₀ table′ output′ next (at + slotLength)
-    unfolding outcomes slots tableAfter
+    unfolding outcomes slotsOf tableAfter
     feeding-step table′ output′ next a b k l n =
         first-left λ others p q.
         let h : at + slotLength * length (m ∷ others) ≤ length output = subst (λ (r : List (List ℕ)). at + slotLength * length r ≤ length output) q (f .room) in
-        let x : slots (outcomes fed table (f .left)) ≡ slot (fed table m) ++ slots (outcomes fed (fed table m .table) others) = ap (λ (r : List (List ℕ)). slots (outcomes fed table r)) q in
-        let y : length (slots (outcomes fed (fed table m .table) others)) ≡ slotLength * length others = slots-length (fed table m .table) others in
+        let x : slotsOf (outcomes fed table (f .left)) ≡ slot (fed table m) ++ slotsOf (outcomes fed (fed table m .table) others) = ap (λ (r : List (List ℕ)). slotsOf (outcomes fed table r)) q in
+        let y : length (slotsOf (outcomes fed (fed table m .table) others)) ≡ slotLength * length others = slots-length (fed table m .table) others in
         let z : length (slot (fed table m)) ≡ slotLength = slot-length table m in
         record {
           all = f .all;
@@ -151,7 +151,7 @@ module _ {table₀ records output₀ table output : List ℕ} {i at : ℕ} (f : 
           table-as-long = k ∙ f .table-as-long;
           output-is =
               rw (a, b, ← z)
-              (splice-splice output at (slot (fed table m)) (slots (outcomes fed (fed table m .table) others)) (omega arith)
+              (splice-splice output at (slot (fed table m)) (slotsOf (outcomes fed (fed table m .table) others)) (omega arith)
               ∙ ap (splice output at) (sym x) ∙ f .output-is);
           table-is = rw a (ap (tableAfter fed table) (sym q) ∙ f .table-is);
         }
@@ -164,9 +164,9 @@ module _ {table₀ records output₀ table output : List ℕ} {i at : ℕ} (f : 
     all-fed : f .all ≡ messages
     all-fed = sound-inj (sym (f .whole) ∙ e)
 
-    pub output-fed : output ≡ splice output₀ 0 (slots (outcomes fed table₀ messages))
-    unfolding outcomes slots
-    output-fed = rw (← all-fed) (paste-zero output at [] ∙ wholly output at [] 0 refl ∙ ap (λ (l : List (List ℕ)). splice output at (slots (outcomes fed table l))) (sym none-left) ∙ f .output-is)
+    pub output-fed : output ≡ splice output₀ 0 (slotsOf (outcomes fed table₀ messages))
+    unfolding outcomes slotsOf
+    output-fed = rw (← all-fed) (paste-zero output at [] ∙ wholly output at [] 0 refl ∙ ap (λ (l : List (List ℕ)). splice output at (slotsOf (outcomes fed table l))) (sym none-left) ∙ f .output-is)
 
     pub table-fed : table ≡ tableAfter fed table₀ messages
     unfolding tableAfter
@@ -228,6 +228,6 @@ pub slots-within : (t s o : List ℕ) → slotLength * batch t s o .slots ≤ le
 unfolding batch
 slots-within t s o = go (toFeed t s (length o)) (λ row e. to-feed t s (length o) row e .1 .1)
   where
-    go : (found : Answer (List (List ℕ))) → ((row : List (List ℕ)) → found ≡ sound row → slotLength * length row ≤ length o) → slotLength * feed t o found .slots ≤ length o
+    go : (found : Answer (List (List ℕ))) → ((row : List (List ℕ)) → found ≡ sound row → slotLength * length row ≤ length o) → slotLength * batchOf t o found .slots ≤ length o
     go (fault n) h = omega arith
     go (sound row) h = h row refl

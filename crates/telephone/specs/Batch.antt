@@ -23,9 +23,9 @@ slotLength = 14
 abbrev pub slot : Outcome → List ℕ
 slot o = o .code ∷ o .written ∷ o .buffer
 
-unfoldable pub slots : List Outcome → List ℕ
-slots [] = []
-slots (o ∷ others) = slot o ++ slots others
+unfoldable pub slotsOf : List Outcome → List ℕ
+slotsOf [] = []
+slotsOf (o ∷ others) = slot o ++ slotsOf others
 
 -- what a batch returns and leaves: "0 and the number of slots written; a refusal returns its number and 0"
 pub record Batch : Type 0 where
@@ -43,15 +43,15 @@ toFeed table records room =
     (sound messages)))
 
 -- "each refuses the whole call and changes nothing"; "Octets after the last slot stay."
-abbrev pub feed : List ℕ → List ℕ → Answer (List (List ℕ)) → Batch
-feed table output (fault number) = record { code = number; slots = 0; output = output; table = table }
-feed table output (sound messages) =
+abbrev pub batchOf : List ℕ → List ℕ → Answer (List (List ℕ)) → Batch
+batchOf table output (fault number) = record { code = number; slots = 0; output = output; table = table }
+batchOf table output (sound messages) =
     record {
       code = 0;
       slots = length messages;
-      output = splice output 0 (slots (outcomes fed table messages));
+      output = splice output 0 (slotsOf (outcomes fed table messages));
       table = tableAfter fed table messages;
     }
 
 unfoldable pub batch : List ℕ → List ℕ → List ℕ → Batch
-batch table records output = feed table output (toFeed table records (length output))
+batch table records output = batchOf table output (toFeed table records (length output))

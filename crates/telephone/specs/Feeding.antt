@@ -7,7 +7,7 @@ use Rattle.octets.specs.Reader.{sound, Taken}
 use Rattle.octets.specs.Splice.{splice}
 use Rattle.records.specs.Records.{oneRecord, messagesIn}
 use Rattle.telephone.specs.History.{outcomes, tableAfter}
-use Rattle.telephone.specs.Batch.{fed, slotLength, slots}
+use Rattle.telephone.specs.Batch.{fed, slotLength, slotsOf}
 
 -- a whole record stands at the front
 abbrev pub IsRecord : List ℕ → Type 0
@@ -18,7 +18,7 @@ abbrev pub CanFeed : List ℕ → ℕ → Type 0
 CanFeed records room = (messages : List (List ℕ)) × ((messagesIn records ≡ sound messages) × (slotLength * length messages ≤ room))
 
 abbrev pub FedOutput : List ℕ → List ℕ → List ℕ → List ℕ → Type 0
-FedOutput table records output after = (messages : List (List ℕ)) → messagesIn records ≡ sound messages → after ≡ splice output 0 (slots (outcomes fed table messages))
+FedOutput table records output after = (messages : List (List ℕ)) → messagesIn records ≡ sound messages → after ≡ splice output 0 (slotsOf (outcomes fed table messages))
 
 abbrev pub FedTable : List ℕ → List ℕ → List ℕ → Type 0
 FedTable table records after = (messages : List (List ℕ)) → messagesIn records ≡ sound messages → after ≡ tableAfter fed table messages

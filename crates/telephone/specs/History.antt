@@ -1,5 +1,5 @@
--- Steps in a row, each from the table that the one before left. What a step does to a table is the reader's to say: a message
--- received, a local call, or both kinds among each other.
+-- Steps in a row, each from the table that the one before left. What a step does to a table is an argument: a message is
+-- received, a local call is made, or either.
 use mathlib.Core.List.{List, [], _∷_}
 use Prim.Native.Nat.{ℕ}
 use Rattle.telephone.specs.Outcome.{Outcome}
