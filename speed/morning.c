@@ -13,6 +13,7 @@
  * in a transaction at most before the network ends it. The first 28 results and errors answer
  * questions of ours that the table has at the start; the others are refused. */
 #define _POSIX_C_SOURCE 199309L
+#include "message.h"
 #include "smrcholet.h"
 
 #include <stdio.h>
@@ -44,9 +45,6 @@ static size_t places[RECORDS + 1];
 static bool is_open[VALUES];
 static uint8_t peers[VALUES], own[VALUES];
 
-static uint8_t message[300];
-static size_t length;
-
 static uint32_t below(uint32_t n)
 {
     static uint64_t seed = 4080;
@@ -56,21 +54,6 @@ static uint32_t below(uint32_t n)
     return (uint32_t)(seed >> 16) % n;
 }
 
-/* Octets put before what is there of the message. */
-static void put(size_t n, const uint8_t *octets)
-{
-    memmove(message + n, message, length);
-    memcpy(message, octets, n);
-    length += n;
-}
-
-/* An element made of what is there. */
-static void wrap(uint8_t tag)
-{
-    if (length > 127) put(3, (uint8_t[]){tag, 0x81, (uint8_t)length});
-    else put(2, (uint8_t[]){tag, (uint8_t)length});
-}
-
 static void make_text(size_t string)
 {
     length = string;
@@ -78,14 +61,6 @@ static void make_text(size_t string)
     wrap(0x04);
     put(3, (uint8_t[]){0x04, 0x01, 0x0F});
     wrap(0x30);
-}
-
-/* The component that is there, in a message of this type. */
-static void send(uint8_t first, uint8_t type)
-{
-    put(1, (uint8_t[]){(uint8_t)length});
-    if (type != 0x3A) put(1, (uint8_t[]){0x1C});
-    put(2, (uint8_t[]){first, type});
 }
 
 static void close_entry(uint8_t value)

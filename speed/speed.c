@@ -7,6 +7,7 @@
  *   speed NAME ours N   N calls, CALLS at most, for counting instructions
  *   speed NAME its N    the same with the decoder */
 #define _POSIX_C_SOURCE 199309L
+#include "message.h"
 #include "smrcholet.h"
 
 #include <stdio.h>
@@ -62,26 +63,10 @@ static const step steps[] = {
 };
 
 /* Each call has a table of its own, made before the clock starts. */
-static uint8_t tables[CALLS][SMR_TABLE], message[300], reply[SMR_REPLY], out[SMR_MESSAGE];
-static size_t length;
+static uint8_t tables[CALLS][SMR_TABLE], reply[SMR_REPLY], out[SMR_MESSAGE];
 static const uint8_t text[] = {0x30, 0x06, 0x04, 0x01, 0x0F, 0x04, 0x01, 0x41};
 static const uint8_t digits[] = {0x12, 0x04, 0x30, 0x39, 0x33, 0x31};
 static unsigned kept; /* what a call gave is used, so that none is left out */
-
-/* Octets put before what is there of the message. */
-static void put(size_t n, const uint8_t *octets)
-{
-    memmove(message + n, message, length);
-    memcpy(message, octets, n);
-    length += n;
-}
-
-/* An element made of what is there. */
-static void wrap(uint8_t tag)
-{
-    if (length > 127) put(3, (uint8_t[]){tag, 0x81, (uint8_t)length});
-    else put(2, (uint8_t[]){tag, (uint8_t)length});
-}
 
 static void make_text(const step *s)
 {
@@ -115,9 +100,7 @@ static void make_message(const step *s)
         put(6, (uint8_t[]){0x02, 0x01, QUESTION, 0x02, 0x01, 34}); /* systemFailure */
     }
     wrap(s->kind);
-    put(1, (uint8_t[]){(uint8_t)length});
-    if (s->type != 0x3A) put(1, (uint8_t[]){0x1C});
-    put(2, (uint8_t[]){s->first, s->type});
+    send(s->first, s->type);
 }
 
 static void receive(int i)
