@@ -11,8 +11,8 @@ use borrow.Author.Tests.{le-leb, lt-leb, leb-true, leb-false}
 use Rattle.octets.specs.Octets.{Octets}
 use Rattle.octets.specs.Reader.{Answer, fault, sound}
 use Rattle.octets.specs.Splice.{splice}
-use Rattle.octets.proofs.FaultLaws.{Faults, then-faults, check-faults}
-use Rattle.octets.proofs.ReaderLaws.{sound-inj, not-sound, through}
+use Rattle.octets.proofs.FaultLaws.{Faults}
+use Rattle.octets.proofs.ReaderLaws.{not-sound}
 use Rattle.octets.proofs.SpliceLaws.{splice-front, length-splice}
 use Rattle.records.specs.Records.{messagesIn, recordsOf}
 use Rattle.records.proofs.RecordLaws.{Filled, messages-append, messages-back, messages-were, messages-fault}
@@ -26,8 +26,8 @@ use Rattle.telephone.specs.Receive.{verdictOf, sentBy, act, receive}
 use Rattle.telephone.specs.History.{outcomes, tableAfter}
 use Rattle.telephone.specs.Batch.{fed, slot, slotsOf, Batch, toFeed, batchOf, batch}
 use Rattle.telephone.proofs.OutcomeLaws.{front-is, behind-stays, sent-room}
-use Rattle.telephone.proofs.BatchLaws.{slots-length, to-feed}
-use Rattle.promises.specs.Morning.{Fit, Answered, damaged, bad, noRoom, isFed, EveryBatch, Lent, receives, messagesOf, Roomy, told, allTold, OneByOne, secondly, inOne, TwoAreOne, OneIsTwo, isSlotVerdict, SlotVerdicts, StaysSound, Morning}
+use Rattle.telephone.proofs.BatchLaws.{slots-length}
+use Rattle.promises.specs.Morning.{Fit, Answered, damaged, bad, noRoom, isFed, EveryBatch, Lent, receives, messagesOf, Roomy, told, allTold, OneByOne, inOne, TwoAreOne, isSlotVerdict, SlotVerdicts, StaysSound, Morning}
 use Rattle.promises.proofs.IsOctets.{octets-front, octets-behind}
 use Rattle.promises.proofs.Silence.{isLoud, four-loud}
 use Rattle.promises.proofs.NeverDamaged.{SoundOctets, receive-sound}
@@ -164,26 +164,6 @@ unfolding slotsOf
 slots-append [] b = refl
 slots-append (x ∷ a) b = ap (λ (l : List ℕ). slot x ++ l) (slots-append a b) ∙ sym (append-assoc (slot x) (slotsOf a) (slotsOf b))
 
--- a batch that is fed has its messages
-numbered : (t s : List ℕ) (room : ℕ) → Faults (λ n. n ≡ 0 → ⊥) (toFeed t s room)
-unfolding toFeed
-numbered t s room =
-    check-faults (λ n. n ≡ 0 → ⊥) (valid t) 28 _ (λ z. omega arith)
-    (then-faults (λ n. n ≡ 0 → ⊥) (messagesIn s) _ (faulty (messagesIn s) (messages-fault s)) λ row.
-    check-faults (λ n. n ≡ 0 → ⊥) (leb (14 * length row) room) 31 _ (λ z. omega arith) tt)
-  where
-    faulty : (found : Answer (List (List ℕ))) → Faults (λ n. n ≡ 30) found → Faults (λ n. n ≡ 0 → ⊥) found
-    faulty (fault n) h = λ z. omega arith
-    faulty (sound row) h = tt
-
-fed-row : (C : Type 0) (t s o : List ℕ) → batch t s o .code ≡ 0 → ((row : List (List ℕ)) → toFeed t s (length o) ≡ sound row → C) → C
-unfolding batch
-fed-row C t s o e next = go (toFeed t s (length o)) refl (numbered t s (length o)) e
-  where
-    go : (found : Answer (List (List ℕ))) → toFeed t s (length o) ≡ found → Faults (λ n. n ≡ 0 → ⊥) found → batchOf t o found .code ≡ 0 → C
-    go (fault n) q h z = absurd (h z)
-    go (sound row) q h z = next row q
-
 -- what the second batch is lent
 module _ (t o : List ℕ) (one : List (List ℕ)) (h : 14 * length one ≤ length o) where
   abbrev behindSlots : List ℕ
@@ -209,32 +189,16 @@ module _ (t o : List ℕ) (one : List (List ℕ)) (h : 14 * length one ≤ lengt
       ∙ sym (splice-front o (a ++ b)) in
       rw (← k, x, front-is o a, behind-stays o a) (sym r)
 
-joined : (t first second o : List ℕ) (one two : List (List ℕ)) → toFeed t first (length o) ≡ sound one
-    → toFeed (tableAfter fed t one) second (length (drop (14 * length one) (splice o 0 (slotsOf (outcomes fed t one))))) ≡ sound two
-    → batch t (first ++ second) o
-    ≡ inOne (batchOf t o (sound one)) (batchOf (tableAfter fed t one) (drop (14 * length one) (splice o 0 (slotsOf (outcomes fed t one)))) (sound two))
-joined t first second o one two e g =
-    let a = to-feed t first (length o) one e in
-    let b = to-feed (tableAfter fed t one) second _ two g in
-    let l = behind-length t o one (a .1 .1) in
-    let w = messages-were first one (a .1 .0) in
+-- both rows in one batch
+joined : (t o : List ℕ) (one two : List (List ℕ)) (h : 14 * length one ≤ length o) → valid t ≡ true → Fit one → Fit two → 14 * (length one + length two) ≤ length o
+    → batch t (recordsOf one ++ recordsOf two) o ≡ inOne (batchOf t o (sound one)) (batchOf (tableAfter fed t one) (behindSlots t o one h) (sound two))
+joined t o one two h v f g room =
+    let s = recordsOf one ++ recordsOf two in
     let n : length (one ++ two) ≡ length one + length two = length-append one two in
-    let m : messagesIn (first ++ second) ≡ sound (one ++ two) = ap (λ (s : List ℕ). messagesIn (s ++ second)) (w .0) ∙ messages-append one second (w .1) ∙ rw (b .1 .0) refl in
-    let h = b .1 .1 in
-    let u = one-output t o one (a .1 .1) two in
-    let v = table-append fed t one two in
-    answers t (first ++ second) o (sound (one ++ two)) (fed-is t (first ++ second) o (a .0) (one ++ two) m (rw n (omega arith)))
-    ∙ λ i. record { code = 0; slots = n i; output = u i; table = v i }
-
-pub two-are-one : TwoAreOne
-two-are-one t first second o p q =
-    fed-row _ t first o p λ one e.
-    subst (λ (a : Batch). secondly a second .code ≡ 0 → batch t (first ++ second) o ≡ inOne a (secondly a second)) (sym (answers t first o (sound one) e))
-    (λ r.
-    let t′ = tableAfter fed t one in
-    let o′ = drop (14 * length one) (splice o 0 (slotsOf (outcomes fed t one))) in
-    fed-row (batch t (first ++ second) o ≡ inOne (batchOf t o (sound one)) (batch t′ second o′)) t′ second o′ r λ two g. rw (answers t′ second o′ (sound two) g) (joined t first second o one two e g))
-    q
+    let m : messagesIn s ≡ sound (one ++ two) = messages-append one (recordsOf two) (fit-filled one f) ∙ rw (messages-back two (fit-filled two g)) refl in
+    let u = one-output t o one h two in
+    let w = table-append fed t one two in
+    answers t s o (sound (one ++ two)) (fed-is t s o v (one ++ two) m (rw n room)) ∙ λ i. record { code = 0; slots = n i; output = u i; table = w i }
 
 -- each verdict is one of 01's, and the table stays sound
 
@@ -278,20 +242,15 @@ stays t (m ∷ row) o q f v =
 pub stays-sound : StaysSound
 stays-sound t row o q f v = let w = stays t row o q f v in (w .0, w .1 .0)
 
-pub one-is-two : OneIsTwo
-one-is-two t second o row x y f c =
-    fed-row _ t (recordsOf row ++ second) o c λ all e.
-    let w = to-feed t (recordsOf row ++ second) (length o) all e in
-    through (messagesIn second) _ all (sym (messages-append row second (fit-filled row f)) ∙ w .1 .0) λ two p q.
-    let n : length row + length two ≡ length all = sym (length-append row two) ∙ ap length (sound-inj q) in
-    let k = w .1 .1 in
-    let h : 14 * length row ≤ length o = omega arith in
-    let l = behind-length t o row h in
-    let t′ = tableAfter fed t row in
-    let o′ = drop (14 * length row) (splice o 0 (slotsOf (outcomes fed t row))) in
-    let b = answers t′ second o′ (sound two) (fed-is t′ second o′ (stays-sound t row x y f (w .0) .1) two p (rw l (omega arith))) in
-    rw (answers t (recordsOf row) o (sound row) (fed-is t (recordsOf row) o (w .0) row (messages-back row (fit-filled row f)) h))
-    (refl, ap (λ (z : Batch). z .code) b)
+pub two-are-one : TwoAreOne
+two-are-one t o one two x y v f g room =
+    let h : 14 * length one ≤ length o = omega arith in
+    let l = behind-length t o one h in
+    let t′ = tableAfter fed t one in
+    let o′ = behindSlots t o one h in
+    let a = answers t (recordsOf one) o (sound one) (fed-is t (recordsOf one) o v one (messages-back one (fit-filled one f)) h) in
+    let b = answers t′ (recordsOf two) o′ (sound two) (fed-is t′ (recordsOf two) o′ (stays-sound t one x y f v .1) two (messages-back two (fit-filled two g)) (rw l (omega arith))) in
+    rw a (refl, (ap (λ (z : Batch). z .code) b, rw b (joined t o one two h v f g room)))
 
 pub morning : Morning
-morning = (every-batch, (one-by-one, (two-are-one, (one-is-two, stays-sound))))
+morning = (every-batch, (one-by-one, (two-are-one, stays-sound)))

@@ -69,23 +69,22 @@ OneByOne =
     (table output : List ℕ) (row : List Lent) → valid table ≡ true → Fit (messagesOf row) → Roomy row → 14 * length row ≤ length output
     → FedAs table output row (batch table (recordsOf (messagesOf row)) output)
 
--- Two batches one after the other, the second with the output behind the slots of the first, are the one batch of both
+-- Two batches one after the other, the second from the table and with the output behind the slots that the first left
 abbrev pub secondly : Batch → List ℕ → Batch
 secondly a records = batch (a .table) records (drop (14 * a .slots) (a .output))
 
 abbrev pub inOne : Batch → Batch → Batch
 inOne a b = record { code = 0; slots = a .slots + b .slots; output = take (14 * a .slots) (a .output) ++ b .output; table = b .table }
 
+-- are fed, both of them, and are the one batch of both
+abbrev pub AreOne : Batch → Batch → Batch → Type 0
+AreOne a b both = (a .code ≡ 0) × ((b .code ≡ 0) × (both ≡ inOne a b))
+
+-- of any two rows of messages, where there is a slot for each
 abbrev pub TwoAreOne : Type 0
 TwoAreOne =
-    (table first second output : List ℕ) → batch table first output .code ≡ 0 → secondly (batch table first output) second .code ≡ 0
-    → batch table (first ++ second) output ≡ inOne (batch table first output) (secondly (batch table first output) second)
-
--- and a batch that is fed is fed in two as well, wherever a record ends
-abbrev pub OneIsTwo : Type 0
-OneIsTwo =
-    (table second output : List ℕ) (row : List (List ℕ)) → Octets table → Octets (recordsOf row) → Fit row → batch table (recordsOf row ++ second) output .code ≡ 0
-    → (batch table (recordsOf row) output .code ≡ 0) × (secondly (batch table (recordsOf row) output) second .code ≡ 0)
+    (table output : List ℕ) (one two : List (List ℕ)) → Octets table → Octets (recordsOf one) → valid table ≡ true → Fit one → Fit two → 14 * (length one + length two) ≤ length output
+    → AreOne (batch table (recordsOf one) output) (secondly (batch table (recordsOf one) output) (recordsOf two)) (batch table (recordsOf one ++ recordsOf two) output)
 
 -- "so 27 never arises, nor 6"; and the table of a batch is never damaged by it
 abbrev pub isSlotVerdict : ℕ → Bool
@@ -101,4 +100,4 @@ StaysSound =
     → SlotVerdicts (outcomes fed table row) × (valid (tableAfter fed table row) ≡ true)
 
 abbrev pub Morning : Type 0
-Morning = EveryBatch × (OneByOne × (TwoAreOne × (OneIsTwo × StaysSound)))
+Morning = EveryBatch × (OneByOne × (TwoAreOne × StaysSound))

@@ -121,15 +121,13 @@ module _ {table₀ records output₀ table output : List ℕ} {i at : ℕ} (f : 
         through (messagesIn (drop (i + 1 + length m) records)) _ (f .left) (sym (messages-step (drop i records) _ e) ∙ f .behind) λ others p q.
         next others p (sym (sound-inj q))
 
-    pub feeding-room : at + slotLength ≤ length output
-    feeding-room = first-left λ others p q. let h : at + slotLength * length (m ∷ others) ≤ length output = subst (λ (l : List (List ℕ)). at + slotLength * length l ≤ length output) q (f .room) in omega arith
-
-    pub feeding-within : i + 1 + length m ≤ length records
+    -- there is a slot for it, and it ends within the records
+    pub feeding-within : (at + slotLength ≤ length output) × (i + 1 + length m ≤ length records)
     feeding-within =
         let rest = drop (i + 1 + length m) records in
         let w = record-was (drop i records) (record { value = m; rest = rest }) e in
         let l : length records - i ≡ suc (length m + length rest) = sym (length-drop i records) ∙ ap length (w .0) ∙ ap suc (length-append m rest) in
-        omega arith
+        (first-left λ others p q. let h : at + slotLength * length (m ∷ others) ≤ length output = subst (λ (l : List (List ℕ)). at + slotLength * length l ≤ length output) q (f .room) in omega arith, omega arith)
 
     pub feeding-step : (table′ output′ : List ℕ) (next : ℕ) → table′ ≡ fed table m .table → output′ ≡ splice output at (slot (fed table m)) → length table′ ≡ length table
         → length output′ ≡ length output → next ≡ i + 1 + length m → Feeding table₀ records output₀ table′ output′ next (at + slotLength)
@@ -145,7 +143,7 @@ module _ {table₀ records output₀ table output : List ℕ} {i at : ℕ} (f : 
           left = others;
           whole = f .whole;
           behind = rw n p;
-          within = rw n feeding-within;
+          within = rw n (feeding-within .1);
           room = rw l (omega arith);
           as-long = l ∙ f .as-long;
           table-as-long = k ∙ f .table-as-long;
@@ -215,7 +213,7 @@ module _ (t s o : List ℕ) where
             rw (v, p, le-leb (slotLength * length row) (length o) l) (ap (λ (k : ℕ). record { code = 0; slots = k }) (sym q), (f row p, g row p))
 
 -- what is fed: a sound table, whole records, a slot for each
-pub to-feed : (t s : List ℕ) (room : ℕ) (row : List (List ℕ)) → toFeed t s room ≡ sound row → (valid t ≡ true) × ((messagesIn s ≡ sound row) × (slotLength * length row ≤ room))
+to-feed : (t s : List ℕ) (room : ℕ) (row : List (List ℕ)) → toFeed t s room ≡ sound row → (valid t ≡ true) × ((messagesIn s ≡ sound row) × (slotLength * length row ≤ room))
 unfolding toFeed
 to-feed t s room row e =
     passed (valid t) 28 _ row e λ v f.

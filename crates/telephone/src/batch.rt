@@ -4,6 +4,7 @@ use records::Count;
 ghost use mathlib.Core.Path.{_≡_};
 ghost use Prim.Native.Nat.{_+_, _≤_};
 ghost use lib.ListN.{length, drop};
+ghost use Rattle.octets.specs.Part.{placeAt};
 ghost use Rattle.octets.specs.Reader.{took};
 ghost use Rattle.octets.specs.Splice.{splice};
 ghost use Rattle.records.specs.Records.{oneRecord};
@@ -18,10 +19,11 @@ pub struct Batched {
     pub slots: usize,
 }
 
-// The message of the record at a place.
+// The message of the record at a place, as a part of the caller's own records.
 fn message_at(records: &[u8], at: usize) -> &[u8]
     requires { ⌜ IsRecord (drop at (now records)) ⌝ }
-    ensures { λ r. ⌜ oneRecord (drop at (now (records .entry))) ≡ took (now r) (drop (at + 1 + length (now r)) (now (records .entry))) ⌝ }
+    ensures octets { λ r. ⌜ oneRecord (drop at (now (records .entry))) ≡ took (now r) (drop (at + 1 + length (now r)) (now (records .entry))) ⌝ }
+    ensures place { λ r. ⌜ r .ptr ≡ placeAt (at + 1) (records .entry .ptr) ⌝ }
 {
     let n = records[at] as usize;
     &records[at + 1..at + 1 + n]

@@ -1,7 +1,7 @@
 use native.Mathlib.Omega.{arith}
 use Prim.Native.Nat.{_-_}
 use lib.ListN.{length}
-use Rattle.telephone.proofs.BatchLaws.{Feeding, feeding-first, feeding-record, feeding-room, feeding-within, feeding-step, output-fed, table-fed}
+use Rattle.telephone.proofs.BatchLaws.{Feeding, feeding-first, feeding-record, feeding-within, feeding-step, output-fed, table-fed}
 use Rattle.telephone.proofs.batch.feed.Statement.{statement}
 use Rattle.telephone.proofs.batch.feed.Tie as tie
 use Rattle.telephone.proofs.batch.feed.Reads as reads
@@ -22,41 +22,33 @@ message-at-requires : tie.Need-message-at-requires Inv-loop μ-loop
 message-at-requires c κs = feeding-record (c .before .loop .inv) (omega arith)
 
 fill-slot-requires : tie.Need-fill-slot-requires Inv-loop μ-loop
-fill-slot-requires c κs = feeding-room (c .before .before .before .before .loop .inv) _ (c .before .before .message-at .ensures)
+fill-slot-requires c κs = feeding-within (c .before .before .before .before .loop .inv) _ (c .before .before .message-at .ensures .0) .0
 
 add-i : tie.Need-add-i Inv-loop μ-loop
 add-i c =
-    let f = c .before .before .before .before .before .before .before .before .before .loop .inv in
-    let h = feeding-within f _ (c .before .before .before .before .before .before .before .message-at .ensures) in
-    let k = feeding-room f _ (c .before .before .before .before .before .before .before .message-at .ensures) in
+    let w = feeding-within (c .before .before .before .before .before .before .before .before .before .loop .inv) _ (c .before .before .before .before .before .before .before .message-at .ensures .0) in
     omega arith
 
 add-i-2 : tie.Need-add-i-2 Inv-loop μ-loop
 add-i-2 c =
-    let f = c .before .before .before .before .before .before .before .before .before .loop .inv in
-    let h = feeding-within f _ (c .before .before .before .before .before .before .before .message-at .ensures) in
-    let k = feeding-room f _ (c .before .before .before .before .before .before .before .message-at .ensures) in
+    let w = feeding-within (c .before .before .before .before .before .before .before .before .before .loop .inv) _ (c .before .before .before .before .before .before .before .message-at .ensures .0) in
     omega arith
 
 add-at : tie.Need-add-at Inv-loop μ-loop
 add-at c =
-    let f = c .before .before .before .before .before .before .before .before .before .loop .inv in
-    let h = feeding-within f _ (c .before .before .before .before .before .before .before .message-at .ensures) in
-    let k = feeding-room f _ (c .before .before .before .before .before .before .before .message-at .ensures) in
+    let w = feeding-within (c .before .before .before .before .before .before .before .before .before .loop .inv) _ (c .before .before .before .before .before .before .before .message-at .ensures .0) in
     omega arith
 
 loop-less : tie.Need-loop-less Inv-loop μ-loop
 loop-less c =
-    let f = c .before .before .before .before .before .before .before .before .before .loop .inv in
-    let h = feeding-within f _ (c .before .before .before .before .before .before .before .message-at .ensures) in
-    let k = feeding-room f _ (c .before .before .before .before .before .before .before .message-at .ensures) in
+    let w = feeding-within (c .before .before .before .before .before .before .before .before .before .loop .inv) _ (c .before .before .before .before .before .before .before .message-at .ensures .0) in
     omega arith
 
 loop-again : tie.Need-loop-again Inv-loop μ-loop
 loop-again c =
     let f = c .before .before .before .before .before .before .before .before .before .loop .inv in
     let e = c .before .before .before .before .fill-slot .ensures in
-    feeding-step f _ (c .before .before .before .before .before .before .before .message-at .ensures) _ _ _ (e .1) (e .0) (c .before .before .before .before .fill-slot .kept .0) (c .before .before .before .before .fill-slot .kept .1 .1 .0) (omega arith)
+    feeding-step f _ (c .before .before .before .before .before .before .before .message-at .ensures .0) _ _ _ (e .1) (e .0) (c .before .before .before .before .fill-slot .kept .0) (c .before .before .before .before .fill-slot .kept .1 .1 .0) (omega arith)
 
 same-length : tie.Need-same-length Inv-loop μ-loop
 same-length c = c .before .loop .inv .table-as-long

@@ -1,4 +1,5 @@
 use borrow.Author.Needs.{needs}
+use mathlib.Core.Path.{refl}
 use native.Mathlib.Omega.{arith}
 use Rattle.telephone.proofs.BatchLaws.{message-is}
 use Rattle.telephone.proofs.batch.message_at.Statement.{statement}
@@ -31,7 +32,7 @@ part-result-end : tie.Need-part-result-end
 part-result-end c = let w = message-is (c .before .args .records .now) (c .before .args .at) (c .before .pre) .0 in omega arith
 
 returns : tie.Need-returns
-returns c = message-is (c .before .before .args .records .now) (c .before .before .args .at) (c .before .before .pre) .1
+returns c = (message-is (c .before .before .args .records .now) (c .before .before .args .at) (c .before .before .pre) .1, refl)
 
 pub message-at-spec : {M : Type 1} → statement M
 message-at-spec =
