@@ -140,10 +140,7 @@ pub fn read_table<'a>(words: &'a [&'a str]) -> (Vec<u8>, &'a [&'a str]) {
         entry.extend(octets(more));
         rest = behind;
     }
-    let (side, value) = named.split_at(1);
-    let first = if side == "o" { 0 } else { 7 };
-    let place = first + value.parse::<usize>().expect("a value");
-    (tables::image(&[(place, entry)]), rest)
+    (tables::image(&[(tables::number(named), entry)]), rest)
 }
 
 fn read_call(name: &str, n: &[i32], octets: Vec<u8>) -> Call {

@@ -14,7 +14,7 @@ pub type Invoke = [u8; 2];
 
 pub const CLOSED: Entry = [0; ENTRY];
 
-/// Our value 0 and the network's, as places among the fourteen.
+/// Our value 0 and the network's, as numbers among the fourteen.
 const O0: usize = 0;
 const N0: usize = 7;
 
@@ -73,7 +73,29 @@ const CROWDED: [(usize, &str, &str); 12] = [
     (12, "none", "0:18/1:18/2:18/3:18"),
 ];
 
-/// Open entries by their places: ours 0 to 6, the network's 7 to 13.
+/// o0 to o6, n0 to n6, as numbers among the fourteen.
+pub fn number(entry: &str) -> usize {
+    let (side, value) = entry.split_at(1);
+    let first = if side == "o" { O0 } else { N0 };
+    first + value.parse::<usize>().expect("a value")
+}
+
+/// A table by the entries that are open, each with what waits in it, as in
+/// `o0 own 1:59 n1 peers 5:60/6:61`.
+pub fn opened(text: &str) -> Vec<u8> {
+    let mut entries: Vec<(usize, &str, &str)> = Vec::new();
+    let mut words = text.split_whitespace();
+    while let Some(word) = words.next() {
+        match (word, entries.last_mut()) {
+            ("own", Some((_, own, _))) => *own = words.next().expect("what waits of ours"),
+            ("peers", Some((.., peers))) => *peers = words.next().expect("what waits"),
+            _ => entries.push((number(word), "none", "none")),
+        }
+    }
+    with(&entries)
+}
+
+/// Open entries by their numbers: ours 0 to 6, the network's 7 to 13.
 fn with(entries: &[(usize, &str, &str)]) -> Vec<u8> {
     let opened = |(place, own, peers): &(usize, &str, &str)| {
         let entry = open(&invokes(own), &invokes(peers));

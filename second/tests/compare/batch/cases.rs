@@ -1,5 +1,5 @@
 //! A case of a batch: "out= the octets of the batch's output (else 60, each EE
-//! beforehand)"; output is all of it afterwards.
+//! beforehand)"; output is all of it afterwards, table the entries that are open.
 
 use super::Facts;
 use crate::cases::{entry_holds, read_table};
@@ -43,6 +43,7 @@ fn fact_holds(name: &str, wanted: &str, case: &Case, facts: &Facts) -> bool {
     match name {
         "slots" => facts.batched.slots.to_string() == wanted,
         "output" => facts.output == octets(wanted),
+        "table" => facts.table == tables::opened(wanted),
         "kept" => (facts.table == case.table) == (wanted == "True"),
         // The entry of the first message.
         _ => {
