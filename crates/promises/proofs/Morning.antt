@@ -26,6 +26,7 @@ use Rattle.telephone.specs.Receive.{verdictOf, sentBy, act, receive}
 use Rattle.telephone.specs.History.{outcomes, tableAfter}
 use Rattle.telephone.specs.Batch.{fed, slot, slotsOf, Batch, toFeed, batchOf, batch}
 use Rattle.telephone.proofs.OutcomeLaws.{front-is, behind-stays, sent-room}
+use Rattle.telephone.proofs.HistoryLaws.{table-append, outcomes-append}
 use Rattle.telephone.proofs.BatchLaws.{slots-length}
 use Rattle.promises.specs.Morning.{Fit, Answered, damaged, bad, noRoom, isFed, EveryBatch, Lent, receives, messagesOf, Roomy, told, allTold, OneByOne, inOne, TwoAreOne, isSlotVerdict, SlotVerdicts, StaysSound, Morning}
 use Rattle.promises.proofs.IsOctets.{octets-front, octets-behind}
@@ -148,17 +149,6 @@ one-by-one t o row v f r h =
 
 -- one row behind another
 
-module _ {Step : Type 0} (does : List ℕ → Step → Outcome) where
-  table-append : (t : List ℕ) (a b : List Step) → tableAfter does t (a ++ b) ≡ tableAfter does (tableAfter does t a) b
-  unfolding tableAfter
-  table-append t [] b = refl
-  table-append t (x ∷ a) b = table-append (does t x .table) a b
-
-  outcomes-append : (t : List ℕ) (a b : List Step) → outcomes does t (a ++ b) ≡ outcomes does t a ++ outcomes does (tableAfter does t a) b
-  unfolding outcomes tableAfter
-  outcomes-append t [] b = refl
-  outcomes-append t (x ∷ a) b = ap (λ (l : List Outcome). does t x ∷ l) (outcomes-append (does t x .table) a b)
-
 slots-append : (a b : List Outcome) → slotsOf (a ++ b) ≡ slotsOf a ++ slotsOf b
 unfolding slotsOf
 slots-append [] b = refl
@@ -231,16 +221,22 @@ slot-verdict t m v h = go (leb 2 (length m)) (eqb (discriminator (firstOctet m))
     go true true true p q r = rw (v, l, p, q, r)
     go true true false p q r = rw (decide-further t m 12 (record { table = v; room = refl; most = l; least = p; protocol = q; transaction = r })) (further-verdict t m)
 
-stays : (t : List ℕ) (row : List (List ℕ)) → Octets t → Octets (recordsOf row) → Fit row → valid t ≡ true → SlotVerdicts (outcomes fed t row) × SoundOctets (tableAfter fed t row)
-unfolding outcomes tableAfter fed receive act
-stays t [] o q f v = (tt, (v, o))
-stays t (m ∷ row) o q f v =
-    let s = receive-sound t m (replicate 12 0) o (octets-front m (recordsOf row) (q .1)) v in
-    let w = stays (fed t m .table) row (s .1) (octets-behind m (recordsOf row) (q .1)) (f .1) (s .0) in
-    ((slot-verdict t m v (f .0 .1), w .0), w .1)
+fed-sound : (t m : List ℕ) (row : List (List ℕ)) → Octets t → Octets (recordsOf (m ∷ row)) → valid t ≡ true → SoundOctets (fed t m .table)
+unfolding fed
+fed-sound t m row o q v = receive-sound t m (replicate 12 0) o (octets-front m (recordsOf row) (q .1)) v
+
+row-sound : (t : List ℕ) (row : List (List ℕ)) → Octets t → Octets (recordsOf row) → valid t ≡ true → valid (tableAfter fed t row) ≡ true
+unfolding tableAfter
+row-sound t [] o q v = v
+row-sound t (m ∷ row) o q v = let s = fed-sound t m row o q v in row-sound (fed t m .table) row (s .1) (octets-behind m (recordsOf row) (q .1)) (s .0)
+
+row-verdicts : (t : List ℕ) (row : List (List ℕ)) → Octets t → Octets (recordsOf row) → Fit row → valid t ≡ true → SlotVerdicts (outcomes fed t row)
+unfolding outcomes fed receive act
+row-verdicts t [] o q f v = tt
+row-verdicts t (m ∷ row) o q f v = let s = fed-sound t m row o q v in (slot-verdict t m v (f .0 .1), row-verdicts (fed t m .table) row (s .1) (octets-behind m (recordsOf row) (q .1)) (f .1) (s .0))
 
 pub stays-sound : StaysSound
-stays-sound t row o q f v = let w = stays t row o q f v in (w .0, w .1 .0)
+stays-sound t row o q f v = (row-verdicts t row o q f v, row-sound t row o q v)
 
 pub two-are-one : TwoAreOne
 two-are-one t o one two x y v f g room =
@@ -249,7 +245,7 @@ two-are-one t o one two x y v f g room =
     let t′ = tableAfter fed t one in
     let o′ = behindSlots t o one h in
     let a = answers t (recordsOf one) o (sound one) (fed-is t (recordsOf one) o v one (messages-back one (fit-filled one f)) h) in
-    let b = answers t′ (recordsOf two) o′ (sound two) (fed-is t′ (recordsOf two) o′ (stays-sound t one x y f v .1) two (messages-back two (fit-filled two g)) (rw l (omega arith))) in
+    let b = answers t′ (recordsOf two) o′ (sound two) (fed-is t′ (recordsOf two) o′ (row-sound t one x y v) two (messages-back two (fit-filled two g)) (rw l (omega arith))) in
     rw a (refl, (ap (λ (z : Batch). z .code) b, rw b (joined t o one two h v f g room)))
 
 pub morning : Morning
