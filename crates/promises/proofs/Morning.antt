@@ -5,7 +5,7 @@ use mathlib.Core.List.{List, [], _∷_, _++_, append-assoc}
 use mathlib.Core.Bool.{Bool, true, false, false≢true}
 use native.Mathlib.Omega.{arith}
 use lib.ListN.{length, getD, take, drop, replicate, length-append, length-drop}
-use lib.Seq.{drop-drop}
+use lib.Seq.{drop-drop, drop-at}
 use lib.Dec.{leb, eqb}
 use borrow.Author.Tests.{le-leb, lt-leb, leb-true, leb-false}
 use Rattle.octets.specs.Octets.{Octets}
@@ -27,8 +27,8 @@ use Rattle.telephone.specs.History.{outcomes, tableAfter}
 use Rattle.telephone.specs.Batch.{fed, slot, slotsOf, Batch, toFeed, batchOf, batch}
 use Rattle.telephone.proofs.OutcomeLaws.{front-is, behind-stays, sent-room}
 use Rattle.telephone.proofs.HistoryLaws.{table-append, outcomes-append}
-use Rattle.telephone.proofs.BatchLaws.{slots-length}
-use Rattle.promises.specs.Morning.{Fit, Answered, damaged, bad, noRoom, isFed, EveryBatch, Lent, receives, messagesOf, Roomy, told, allTold, OneByOne, inOne, TwoAreOne, isSlotVerdict, SlotVerdicts, StaysSound, Morning}
+use Rattle.telephone.proofs.BatchLaws.{slot-length, slots-length, to-feed}
+use Rattle.promises.specs.Morning.{Fit, Answered, damaged, bad, noRoom, isFed, EveryBatch, Lent, receives, messagesOf, Roomy, told, allTold, OneByOne, inOne, TwoAreOne, isSlotVerdict, SlotVerdicts, SlotsKnown, StaysSound, Morning}
 use Rattle.promises.proofs.IsOctets.{octets-front, octets-behind}
 use Rattle.promises.proofs.Silence.{isLoud, four-loud}
 use Rattle.promises.proofs.NeverDamaged.{SoundOctets, receive-sound}
@@ -155,12 +155,12 @@ slots-append [] b = refl
 slots-append (x ∷ a) b = ap (λ (l : List ℕ). slot x ++ l) (slots-append a b) ∙ sym (append-assoc (slot x) (slotsOf a) (slotsOf b))
 
 -- what the second batch is lent
-module _ (t o : List ℕ) (one : List (List ℕ)) (h : 14 * length one ≤ length o) where
+module _ (t o : List ℕ) (one : List (List ℕ)) where
   abbrev behindSlots : List ℕ
   behindSlots = drop (14 * length one) (splice o 0 (slotsOf (outcomes fed t one)))
 
-  behind-length : length behindSlots ≡ length o - 14 * length one
-  behind-length =
+  behind-length : 14 * length one ≤ length o → length behindSlots ≡ length o - 14 * length one
+  behind-length h =
       let k = slots-length t one in
       length-drop (14 * length one) (splice o 0 (slotsOf (outcomes fed t one))) ∙ ap (λ (n : ℕ). n - 14 * length one) (length-splice o 0 (slotsOf (outcomes fed t one)) (omega arith))
 
@@ -180,13 +180,13 @@ module _ (t o : List ℕ) (one : List (List ℕ)) (h : 14 * length one ≤ lengt
       rw (← k, x, front-is o a, behind-stays o a) (sym r)
 
 -- both rows in one batch
-joined : (t o : List ℕ) (one two : List (List ℕ)) (h : 14 * length one ≤ length o) → valid t ≡ true → Fit one → Fit two → 14 * (length one + length two) ≤ length o
-    → batch t (recordsOf one ++ recordsOf two) o ≡ inOne (batchOf t o (sound one)) (batchOf (tableAfter fed t one) (behindSlots t o one h) (sound two))
-joined t o one two h v f g room =
+joined : (t o : List ℕ) (one two : List (List ℕ)) → valid t ≡ true → Fit one → Fit two → 14 * (length one + length two) ≤ length o
+    → batch t (recordsOf one ++ recordsOf two) o ≡ inOne (batchOf t o (sound one)) (batchOf (tableAfter fed t one) (behindSlots t o one) (sound two))
+joined t o one two v f g room =
     let s = recordsOf one ++ recordsOf two in
     let n : length (one ++ two) ≡ length one + length two = length-append one two in
     let m : messagesIn s ≡ sound (one ++ two) = messages-append one (recordsOf two) (fit-filled one f) ∙ rw (messages-back two (fit-filled two g)) refl in
-    let u = one-output t o one h two in
+    let u = one-output t o one two in
     let w = table-append fed t one two in
     answers t s o (sound (one ++ two)) (fed-is t s o v (one ++ two) m (rw n room)) ∙ λ i. record { code = 0; slots = n i; output = u i; table = w i }
 
@@ -230,23 +230,48 @@ unfolding tableAfter
 row-sound t [] o q v = v
 row-sound t (m ∷ row) o q v = let s = fed-sound t m row o q v in row-sound (fed t m .table) row (s .1) (octets-behind m (recordsOf row) (q .1)) (s .0)
 
-row-verdicts : (t : List ℕ) (row : List (List ℕ)) → Octets t → Octets (recordsOf row) → Fit row → valid t ≡ true → SlotVerdicts (outcomes fed t row)
-unfolding outcomes fed receive act
-row-verdicts t [] o q f v = tt
-row-verdicts t (m ∷ row) o q f v = let s = fed-sound t m row o q v in (slot-verdict t m v (f .0 .1), row-verdicts (fed t m .table) row (s .1) (octets-behind m (recordsOf row) (q .1)) (f .1) (s .0))
+row-verdicts : (t : List ℕ) (row : List (List ℕ)) (behind : List ℕ) → Octets t → Octets (recordsOf row) → Fit row → valid t ≡ true
+    → SlotVerdicts (length row) (slotsOf (outcomes fed t row) ++ behind)
+unfolding outcomes slotsOf fed receive act
+row-verdicts t [] behind o q f v = tt
+row-verdicts t (m ∷ row) behind o q f v =
+    let s = fed-sound t m row o q v in
+    let rest = slotsOf (outcomes fed (fed t m .table) row) in
+    let e = ap (drop 14) (append-assoc (slot (fed t m)) rest behind) ∙ drop-at (slot (fed t m)) (rest ++ behind) 14 (slot-length t m) in
+    (slot-verdict t m v (f .0 .1), subst (SlotVerdicts (length row)) (sym e) (row-verdicts (fed t m .table) row behind (s .1) (octets-behind m (recordsOf row) (q .1)) (f .1) (s .0)))
+
+-- what is fed, or what is lent
+module _ (t s o : List ℕ) (y : Octets s) where
+  either : (P : Batch → Type 0) → ((n : ℕ) → P (batchOf t o (fault n)))
+      → ((row : List (List ℕ)) → valid t ≡ true → Octets (recordsOf row) → Fit row → P (batchOf t o (sound row))) → P (batch t s o)
+  unfolding batch
+  either P refused done = go (toFeed t s (length o)) refl
+    where
+      go : (found : Answer (List (List ℕ))) → toFeed t s (length o) ≡ found → P (batchOf t o found)
+      go (fault n) e = refused n
+      go (sound row) e =
+          let w = to-feed t s (length o) row e in
+          let r = messages-were s row (w .1 .0) in
+          let q = subst Octets (r .0) y in
+          done row (w .0) q (filled-fit row q (r .1))
+
+pub slots-known : SlotsKnown
+slots-known t s o x y =
+    either t s o y (λ b. SlotVerdicts (b .slots) (b .output)) (λ n. tt) λ row v q f.
+    rw (splice-front o (slotsOf (outcomes fed t row))) (row-verdicts t row _ x q f v)
 
 pub stays-sound : StaysSound
-stays-sound t row o q f v = (row-verdicts t row o q f v, row-sound t row o q v)
+stays-sound t s o x y v = either t s o y (λ b. valid (b .table) ≡ true) (λ n. v) λ row w q f. row-sound t row x q w
 
 pub two-are-one : TwoAreOne
 two-are-one t o one two x y v f g room =
     let h : 14 * length one ≤ length o = omega arith in
     let l = behind-length t o one h in
     let t′ = tableAfter fed t one in
-    let o′ = behindSlots t o one h in
+    let o′ = behindSlots t o one in
     let a = answers t (recordsOf one) o (sound one) (fed-is t (recordsOf one) o v one (messages-back one (fit-filled one f)) h) in
     let b = answers t′ (recordsOf two) o′ (sound two) (fed-is t′ (recordsOf two) o′ (row-sound t one x y v) two (messages-back two (fit-filled two g)) (rw l (omega arith))) in
-    rw a (refl, (ap (λ (z : Batch). z .code) b, rw b (joined t o one two h v f g room)))
+    rw a (refl, (ap (λ (z : Batch). z .code) b, rw b (joined t o one two v f g room)))
 
 pub morning : Morning
-morning = (every-batch, (one-by-one, (two-are-one, stays-sound)))
+morning = (every-batch, (one-by-one, (two-are-one, (slots-known, stays-sound))))

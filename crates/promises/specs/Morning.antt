@@ -1,10 +1,10 @@
 -- 02 [6], "A morning's messages in one call", over the definition that the call from C promises to meet. What a batch is said to
 -- be here goes by messages and their octets alone, not by how records are read.
-use Prim.Native.Nat.{ℕ, _+_, _-_, _*_, _≤_, _<_}
+use Prim.Native.Nat.{ℕ, zero, suc, _+_, _-_, _*_, _≤_, _<_}
 use mathlib.Core.Path.{_≡_}
 use mathlib.Core.List.{List, [], _∷_, _++_, map}
 use mathlib.Core.Bool.{Bool, true, false, _||_}
-use lib.ListN.{length, take, drop, replicate}
+use lib.ListN.{length, getD, take, drop, replicate}
 use lib.Dec.{leb, eqb}
 use Rattle.octets.specs.Octets.{Octets}
 use Rattle.records.specs.Records.{recordsOf}
@@ -12,7 +12,7 @@ use Rattle.table.specs.Table.{valid}
 use Rattle.telephone.specs.Outcome.{Outcome}
 use Rattle.telephone.specs.Receive.{receive}
 use Rattle.telephone.specs.History.{outcomes, tableAfter}
-use Rattle.telephone.specs.Batch.{fed, Batch, batch}
+use Rattle.telephone.specs.Batch.{Batch, batch}
 
 -- messages that records hold: "a length octet from 1 to 255 and that many octets"
 abbrev pub Fit : List (List ℕ) → Type 0
@@ -86,18 +86,20 @@ TwoAreOne =
     (table output : List ℕ) (one two : List (List ℕ)) → Octets table → Octets (recordsOf one) → valid table ≡ true → Fit one → Fit two → 14 * (length one + length two) ≤ length output
     → AreOne (batch table (recordsOf one) output) (secondly (batch table (recordsOf one) output) (recordsOf two)) (batch table (recordsOf one ++ recordsOf two) output)
 
--- "so 27 never arises, nor 6"; and the table of a batch is never damaged by it
+-- "so 27 never arises, nor 6": of the slots that are told, from the front of the output on
 abbrev pub isSlotVerdict : ℕ → Bool
 isSlotVerdict code = leb code 5 || eqb code 7
 
-abbrev pub SlotVerdicts : List Outcome → Type 0
-SlotVerdicts [] = Unit {0}
-SlotVerdicts (o ∷ others) = (isSlotVerdict (o .code) ≡ true) × SlotVerdicts others
+abbrev pub SlotVerdicts : ℕ → List ℕ → Type 0
+SlotVerdicts zero output = Unit {0}
+SlotVerdicts (suc n) output = (isSlotVerdict (getD output 0 0) ≡ true) × SlotVerdicts n (drop 14 output)
 
+abbrev pub SlotsKnown : Type 0
+SlotsKnown = (table records output : List ℕ) → Octets table → Octets records → SlotVerdicts (batch table records output .slots) (batch table records output .output)
+
+-- no batch damages the table
 abbrev pub StaysSound : Type 0
-StaysSound =
-    (table : List ℕ) (row : List (List ℕ)) → Octets table → Octets (recordsOf row) → Fit row → valid table ≡ true
-    → SlotVerdicts (outcomes fed table row) × (valid (tableAfter fed table row) ≡ true)
+StaysSound = (table records output : List ℕ) → Octets table → Octets records → valid table ≡ true → valid (batch table records output .table) ≡ true
 
 abbrev pub Morning : Type 0
-Morning = EveryBatch × (OneByOne × (TwoAreOne × StaysSound))
+Morning = EveryBatch × (OneByOne × (TwoAreOne × (SlotsKnown × StaysSound)))

@@ -213,7 +213,7 @@ module _ (t s o : List ℕ) where
             rw (v, p, le-leb (slotLength * length row) (length o) l) (ap (λ (k : ℕ). record { code = 0; slots = k }) (sym q), (f row p, g row p))
 
 -- what is fed: a sound table, whole records, a slot for each
-to-feed : (t s : List ℕ) (room : ℕ) (row : List (List ℕ)) → toFeed t s room ≡ sound row → (valid t ≡ true) × ((messagesIn s ≡ sound row) × (slotLength * length row ≤ room))
+pub to-feed : (t s : List ℕ) (room : ℕ) (row : List (List ℕ)) → toFeed t s room ≡ sound row → (valid t ≡ true) × ((messagesIn s ≡ sound row) × (slotLength * length row ≤ room))
 unfolding toFeed
 to-feed t s room row e =
     passed (valid t) 28 _ row e λ v f.
