@@ -3,11 +3,11 @@
  * Every call is safe with any octets and any lengths; NULL is allowed where the
  * length is 0. There is no heap and no state but the table that you lend:
  * SMR_TABLE octets, all zero at the start, handed to each call but smr_cells
- * and never shared by two calls at once. No two of the slices of one call may
- * overlap.
+ * and the two of a trace, and never shared by two calls at once. No two of the
+ * slices of one call may overlap.
  *
- * smr_cells is in libcells.a, the other calls are in libtelephone.a; neither
- * archive needs the other.
+ * smr_cells is in libcells.a, smr_trace_begin and smr_trace_add are in
+ * libtrace.a, the other calls are in libtelephone.a; no archive needs another.
  */
 #ifndef SMRCHOLET_H
 #define SMRCHOLET_H
@@ -35,6 +35,8 @@ extern "C" {
 /* Room for every text that smr_receive shows, and for its lines. */
 #define SMR_CHARACTERS 182
 #define SMR_LINE_OCTETS 18
+/* A block of a trace file. */
+#define SMR_BLOCK 512
 
 /* Verdicts on a received message. Its component is shown with 0, unless the
  * Facility value was empty; with 4 if the Reject was sound; with 5 if a sound
@@ -61,6 +63,13 @@ extern "C" {
 #define SMR_DAMAGED 28        /* the table is damaged, or not SMR_TABLE long */
 #define SMR_BAD_RECORD 30     /* batch: a zero or cut record */
 #define SMR_SHORT_OUTPUT 31   /* batch: fewer than SMR_SLOT octets a record */
+#define SMR_BLOCK_SHORT 32    /* trace: not SMR_BLOCK octets */
+#define SMR_BLOCK_SUM 33      /* trace: the sum */
+#define SMR_BLOCK_USED 34     /* trace: the use count */
+#define SMR_BLOCK_RECORD 35   /* trace: a record or the rest of the block; or
+                                 the record that is added */
+#define SMR_BLOCK_NUMBER 36   /* trace: the number isn't the block's place; the
+                                 programs find it, no call does */
 #define SMR_OTHER_SCHEME 40   /* cells: the coding scheme is not 0F */
 #define SMR_SHORT_TEXT 41     /* cells: text or lines too short */
 
@@ -195,6 +204,11 @@ typedef struct {
     size_t lines;      /* written to lines, two octets each */
 } smr_laid;
 
+typedef struct {
+    uint8_t code; /* 0, or the refusal, 32 to 35 */
+    bool added;   /* false with code 0: it doesn't fit, begin the next block */
+} smr_traced;
+
 /* A message came in. The reply buffer needs SMR_REPLY octets. Up to four of the
  * peer's invokes may wait in a transaction, each under an id of its own. One
  * with the id of another that waits gets invoke problem 0, any that comes while
@@ -275,6 +289,25 @@ smr_called smr_release(uint8_t *table, size_t table_length,
 smr_laid smr_cells(uint8_t scheme, const uint8_t *string, size_t string_length,
                    uint16_t *text, size_t text_length,
                    uint8_t *lines, size_t lines_length);
+
+/* A trace file is blocks of SMR_BLOCK octets, numbered from 0: the number (four
+ * octets), the octets used (two, 0 to 504), 504 octets for records, filled up
+ * with zeros, and the sum of the first 510 octets modulo 65,536 (two), all high
+ * first. A record is a direction (0 received, 1 sent), a length 1 to 255 and the
+ * message. Keep one block, add each message as it comes or goes, and write the
+ * block where it is full: that is the file that the program trace_writer writes
+ * of the same records. Begin a block only where there is none yet, or where a
+ * record doesn't fit. */
+
+/* An empty block of this number. Any length but SMR_BLOCK is 32; else added is
+ * true. */
+smr_traced smr_trace_begin(uint8_t *block, size_t block_length, uint32_t number);
+
+/* A record behind those of a block. The block's own faults, 32 to 35, come
+ * first (its number is free), then 35 for a direction over 1, no octets or over
+ * 255; then whether it fits. Where it is not added the block stays as it was. */
+smr_traced smr_trace_add(uint8_t *block, size_t block_length, uint8_t direction,
+                         const uint8_t *message, size_t message_length);
 
 #ifdef __cplusplus
 }

@@ -1,0 +1,6 @@
+mod NumberLaws
+pub mod RecordLaws
+mod Paths
+pub mod BlockLaws
+pub mod FaultLaws
+mod CallPaths

@@ -1,0 +1,9 @@
+pub mod Numbers
+pub mod Records
+pub mod Blocks
+pub mod Files
+pub mod Writing
+pub mod Calls
+pub mod Steps
+pub mod Salvage
+pub mod Seen
