@@ -1,18 +1,21 @@
 -- What the definitions of the calls and of salvage say on each path through the code.
 use Prim.Native.Nat.{ℕ, _+_, _/_, _%_, _≤_, _<_}
 use mathlib.Core.Path.{_≡_, refl, sym, ap, _∙_}
-use mathlib.Core.List.{List, [], _∷_, _++_}
+use mathlib.Core.List.{List, [], _∷_, _++_, append-nil}
 use mathlib.Core.Bool.{Bool, true, false}
 use native.Mathlib.Omega.{arith}
-use lib.ListN.{length}
+use lib.ListN.{length, drop-of-length-le}
 use borrow.Author.Tests.{eq-eqb, ne-eqb, le-leb, lt-leb}
 use Rattle.octets.specs.Part.{between}
 use Rattle.octets.specs.Reader.{Answer, fault, sound}
+use Rattle.octets.specs.Splice.{splice}
 use Rattle.octets.proofs.FaultLaws.{Faults}
+use Rattle.octets.proofs.SpliceLaws.{splice-front}
 use Rattle.trace.specs.Numbers.{four}
 use Rattle.trace.specs.Records.{Record, badRecord, goodRecord, recordOctets}
 use Rattle.trace.specs.Blocks.{shortBlock, numberIn, usedIn, sealed, blockOf, blockRecords, faultOf}
 use Rattle.trace.specs.Calls.{refusedBy, done, beginAnswer, beginLeaves, addAnswer, withRecord, addLeaves}
+use Rattle.trace.specs.Steps.{nextNumber, wrote, holds, handsOver}
 use Rattle.trace.specs.Salvage.{fateBy, fateOf, renumbered}
 use Rattle.trace.specs.Seen.{mended}
 use Rattle.trace.specs.declared.Traced.{Traced}
@@ -103,3 +106,26 @@ unfolding fateOf
 fate-moved kept b h q =
     let e = by-moved kept (numberIn b) (blockRecords b) (block-faults b) h q in
     (e, modulo kept b ∙ ap (mended kept b) e)
+
+-- the writer's step
+
+module _ (held : List ℕ) (number : ℕ) (r : Record) (full : List ℕ) where
+  pub wrote-refused : (addAnswer held r .code ≡ 0 → ⊥)
+      → (record { code = addAnswer held r .code; number = number; «is_full» = false } ≡ wrote held number r) × ((addLeaves held r ≡ holds held number r) × (full ≡ handsOver full held r))
+  unfolding wrote holds handsOver
+  wrote-refused h = let e = ne-eqb (addAnswer held r .code) 0 h in (rw e, (rw e, rw e))
+
+  module _ (z : addAnswer held r .code ≡ 0) where
+    pub wrote-added : addAnswer held r .added ≡ true
+        → (record { code = 0; number = number; «is_full» = false } ≡ wrote held number r) × ((addLeaves held r ≡ holds held number r) × (full ≡ handsOver full held r))
+    unfolding wrote holds handsOver
+    wrote-added h = let e = eq-eqb (addAnswer held r .code) 0 z in (rw (e, h), (rw (e, h), rw (e, h)))
+
+    pub wrote-full : (left : List ℕ) → left ≡ addLeaves held r → length full ≡ length left → addAnswer held r .added ≡ false
+        → (record { code = 0; number = nextNumber number; «is_full» = true } ≡ wrote held number r)
+        × ((addLeaves (blockOf (nextNumber number) []) r ≡ holds held number r) × (splice full 0 left ≡ handsOver full held r))
+    unfolding wrote holds handsOver addLeaves
+    wrote-full left q l h =
+        let e = eq-eqb (addAnswer held r .code) 0 z in
+        let s : left ≡ held = q ∙ rw h in
+        (rw (e, h), (rw (e, h), splice-front full left ∙ ap (λ (t : List ℕ). left ++ t) (drop-of-length-le full {i = length left} (omega arith)) ∙ append-nil left ∙ s ∙ rw (e, h)))

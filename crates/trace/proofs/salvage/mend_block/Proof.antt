@@ -1,3 +1,4 @@
+use Rattle.trace.specs.Blocks.{numberIn}
 use Rattle.trace.proofs.CallPaths.{fate-short, fate-dropped, fate-kept, fate-moved}
 use Rattle.trace.proofs.FaultLaws.{is-whole}
 use Rattle.trace.specs.declared.Fate.the-variants.{Dropped, Renumbered}
@@ -36,7 +37,7 @@ returns-2 c =
     let a = c .before .before .before .before .before .before .before .args in
     let f = c .before .before .before .before .block-fault .ensures in
     let w = fate-dropped (a .kept) (a .block .now) (λ z. c .before .before .before .if1 .left (f ∙ z)) (λ z. c .if2 .taken (f ∙ z)) in
-    (ap (λ n. Dropped n (c .before .before .before .before .block-fault .result)) (c .before .number-in .ensures) ∙ ap (Dropped _) f ∙ w .0, w .1)
+    (ap (λ n. Dropped n (c .before .before .before .before .block-fault .result)) (c .before .number-in .ensures) ∙ ap (Dropped (numberIn (a .block .now))) f ∙ w .0, w .1)
 
 cast-if3 : tie.Need-cast-if3
 cast-if3 c = search needs
