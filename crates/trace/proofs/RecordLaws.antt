@@ -13,13 +13,8 @@ use Rattle.octets.proofs.TestLaws.{both}
 use Rattle.octets.proofs.FaultLaws.{Faults, then-faults, check-faults, cond-faults, octet-faults}
 use Rattle.records.specs.Records.{oneRecord}
 use Rattle.records.proofs.RecordLaws as one
-use Rattle.trace.specs.Records.{Record, badRecord, goodRecord, recordOctets, recordsOf, directed, traceRecord, recordsBy, recordsIn}
+use Rattle.trace.specs.Records.{Record, badRecord, goodRecord, Good, recordOctets, recordsOf, directed, traceRecord, recordsBy, recordsIn}
 use Rattle.trace.specs.Seen.{isSound}
-
--- each of them may be written
-abbrev pub Good : List Record → Type 0
-Good [] = Unit {0}
-Good (r ∷ others) = (goodRecord r ≡ true) × Good others
 
 -- what that asks for
 pub good-was : (r : Record) → goodRecord r ≡ true → (leb (r .direction) 1 ≡ true) × ((1 ≤ length (r .message)) × (length (r .message) ≤ 255))

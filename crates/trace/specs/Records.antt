@@ -1,7 +1,8 @@
 -- 02 [7]: "A record is a direction (0 received, 1 sent), a length 1 to 255 and the message".
 use Prim.Native.Nat.{ℕ, zero, suc}
+use mathlib.Core.Path.{_≡_}
 use mathlib.Core.List.{List, [], _∷_, _++_}
-use mathlib.Core.Bool.{Bool, cond, _&&_}
+use mathlib.Core.Bool.{Bool, true, cond, _&&_}
 use lib.ListN.{length}
 use lib.Dec.{leb}
 use Rattle.octets.specs.Reader.{Answer, fault, sound, Taken, Reader, took, andThen, seq, need, octet, isEmpty}
@@ -18,6 +19,11 @@ badRecord = 35
 -- "02 means a direction neither 0 nor 1, no octets, over 255 octets."
 abbrev pub goodRecord : Record → Bool
 goodRecord r = leb (r .direction) 1 && leb 1 (length (r .message)) && leb (length (r .message)) 255
+
+-- each of them may be written
+abbrev pub Good : List Record → Type 0
+Good [] = Unit {0}
+Good (r ∷ others) = (goodRecord r ≡ true) × Good others
 
 abbrev pub recordOctets : Record → List ℕ
 recordOctets r = r .direction ∷ length (r .message) ∷ r .message

@@ -1,0 +1,5 @@
+pub mod Blocks
+pub mod Faults
+pub mod Written
+pub mod Mended
+pub mod Built
