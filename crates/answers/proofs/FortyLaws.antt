@@ -18,7 +18,7 @@ use Rattle.words.specs.declared.Command.{Command}
 use Rattle.words.specs.declared.Command.the-variants.{Nothing, Unknown, Receive, Begin, Invoke, Result, Error, Release, Table, Buffer, Batch}
 use Rattle.reports.specs.Words.{tableWord, bufferWord, lineWord, tableSet}
 use Rattle.reports.proofs.FortyLaws.{received-forty, called-forty, batched-forty}
-use Rattle.answers.specs.Lines.{longest}
+use Rattle.words.specs.Lines.{longest}
 use Rattle.answers.specs.declared.answer.Asks.{Asks}
 use Rattle.answers.specs.declared.answer.Asks.the-variants.{Passed, Unclear, Room, Image, Call}
 use Rattle.answers.specs.Answers.{State, Said, says, notUnderstood, tooLong, made, image, asksOf, unlessWhole, octetsAt, onOctets, byAsks, answer, answerLine}

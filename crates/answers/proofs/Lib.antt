@@ -1,4 +1,3 @@
-mod LineLaws
 mod PageLaws
 mod AnswerLaws
 mod CallLaws

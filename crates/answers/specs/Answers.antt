@@ -21,7 +21,7 @@ use Rattle.telephone.specs.Receive.{receive}
 use Rattle.telephone.specs.Calls.{begin, invokeWithin, result, error, release}
 use Rattle.telephone.specs.Batch.{Batch as BatchOutcome, batch}
 use Rattle.telephone.specs.FromC.{receivedOf, calledOf, batchedOf}
-use Rattle.answers.specs.Lines.{longest}
+use Rattle.words.specs.Lines.{longest}
 use Rattle.answers.specs.declared.answer.Held.{Held}
 use Rattle.answers.specs.declared.answer.Asks.{Asks}
 use Rattle.answers.specs.declared.answer.Asks.the-variants.{Passed, Unclear, Room, Image, Call}

@@ -1,7 +1,7 @@
 // Lines from standard input, each answered on standard output.
 use answers::answer::Held;
 use answers::answer::answer_line;
-use answers::lines::gather;
+use words::lines::gather;
 use libc::STDIN_FILENO;
 use libc::STDOUT_FILENO;
 ghost use Prim.Native.Nat.{_≤_};

@@ -2,6 +2,6 @@ pub mod FortyLaws
 pub mod TextFortyLaws
 pub mod Worked
 mod DecimalLaws
-mod FoldLaws
+pub mod FoldLaws
 mod CellLaws
 pub mod JoinLaws

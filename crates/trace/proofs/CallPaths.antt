@@ -5,15 +5,16 @@ use mathlib.Core.List.{List, [], _∷_, _++_, append-nil}
 use mathlib.Core.Bool.{Bool, true, false}
 use native.Mathlib.Omega.{arith}
 use lib.ListN.{length, drop-of-length-le}
+use lib.Dec.{eqb}
 use borrow.Author.Tests.{eq-eqb, ne-eqb, le-leb, lt-leb}
 use Rattle.octets.specs.Part.{between}
-use Rattle.octets.specs.Reader.{Answer, fault, sound}
+use Rattle.octets.specs.Reader.{Answer, fault, sound, andThen, check}
 use Rattle.octets.specs.Splice.{splice}
 use Rattle.octets.proofs.FaultLaws.{Faults}
 use Rattle.octets.proofs.SpliceLaws.{splice-front}
 use Rattle.trace.specs.Numbers.{four}
 use Rattle.trace.specs.Records.{Record, badRecord, goodRecord, recordOctets}
-use Rattle.trace.specs.Blocks.{shortBlock, numberIn, usedIn, sealed, blockOf, blockRecords, faultOf}
+use Rattle.trace.specs.Blocks.{shortBlock, wrongNumber, recordsAt, numberIn, usedIn, sealed, blockOf, blockRecords, faultOf}
 use Rattle.trace.specs.Calls.{refusedBy, done, beginAnswer, beginLeaves, addAnswer, withRecord, addLeaves}
 use Rattle.trace.specs.Steps.{nextNumber, wrote, holds, handsOver}
 use Rattle.trace.specs.Salvage.{fateBy, fateOf, renumbered}
@@ -21,7 +22,7 @@ use Rattle.trace.specs.Seen.{mended}
 use Rattle.trace.specs.declared.Traced.{Traced}
 use Rattle.trace.specs.declared.Fate.{Fate}
 use Rattle.trace.specs.declared.Fate.the-variants.{Kept, Renumbered, Dropped, Short}
-use Rattle.trace.proofs.FaultLaws.{OfBlock, block-faults}
+use Rattle.trace.proofs.FaultLaws.{OfBlock, block-faults, no-fault-sound}
 
 pub begin-refused : (b : List ℕ) (n : ℕ) → (length b ≡ 512 → ⊥) → (refusedBy shortBlock ≡ beginAnswer b) × (b ≡ beginLeaves b n)
 unfolding beginAnswer beginLeaves
@@ -129,3 +130,23 @@ module _ (held : List ℕ) (number : ℕ) (r : Record) (full : List ℕ) where
         let e = eq-eqb (addAnswer held r .code) 0 z in
         let s : left ≡ held = q ∙ rw h in
         (rw (e, h), (rw (e, h), splice-front full left ∙ ap (λ (t : List ℕ). left ++ t) (drop-of-length-le full {i = length left} (omega arith)) ∙ append-nil left ∙ s ∙ rw (e, h)))
+
+-- a block at its place
+
+module _ (place : ℕ) (b : List ℕ) where
+  pub at-fault : (faultOf (blockRecords b) ≡ 0 → ⊥) → faultOf (blockRecords b) ≡ faultOf (recordsAt place b)
+  unfolding recordsAt
+  at-fault h = go (blockRecords b) h
+    where
+      go : (o : Answer (List Record)) → (faultOf o ≡ 0 → ⊥) → faultOf o ≡ faultOf (andThen o (λ records. check (eqb (numberIn b) place) wrongNumber (sound records)))
+      go (fault n) h = refl
+      go (sound records) h = absurd (h refl)
+
+  module _ (f : faultOf (blockRecords b) ≡ 0) where
+    pub at-other : (numberIn b ≡ place → ⊥) → wrongNumber ≡ faultOf (recordsAt place b)
+    unfolding recordsAt
+    at-other h = let w = no-fault-sound (blockRecords b) (block-faults b) f in rw (w .1, ne-eqb (numberIn b) place h)
+
+    pub at-place : numberIn b ≡ place → 0 ≡ faultOf (recordsAt place b)
+    unfolding recordsAt
+    at-place h = let w = no-fault-sound (blockRecords b) (block-faults b) f in rw (w .1, eq-eqb (numberIn b) place h)

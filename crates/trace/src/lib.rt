@@ -1,5 +1,6 @@
 // A trace file: blocks of records, judged, read, written and mended. No input or output here.
 mod blocks;
+pub mod places;
 pub mod reading;
 pub mod salvage;
 pub mod writing;

@@ -1,3 +1,4 @@
+mod LineLaws
 mod WordLaws
 mod NumberLaws
 mod PlaceLaws

@@ -1,8 +1,9 @@
 // A line of the bench: its words, its numbers, its octets, and the command that it is.
 pub mod commands;
 pub mod hex;
+pub mod lines;
 pub mod numbers;
-mod text;
+pub mod text;
 
 // From one octet of a line up to, not including, another.
 pub struct Word {

@@ -5,7 +5,7 @@ ghost use Prim.Native.Nat.{_+_};
 ghost use lib.ListN.{drop};
 ghost use Rattle.words.specs.Words.{blank, blanks, letters, wordAt, same};
 
-pub(crate) fn is_blank(c: u8) -> bool
+pub fn is_blank(c: u8) -> bool
     ensures { λ r. ⌜ r ≡ blank c ⌝ }
 {
     (c == 32) | (c == 9) | (c == 13)
@@ -40,7 +40,7 @@ fn past_letters(s: &[u8], at: usize) -> usize
 }
 
 // The next word from a place on; empty where none is left.
-pub(crate) fn word_at(s: &[u8], at: usize) -> Word
+pub fn word_at(s: &[u8], at: usize) -> Word
     ensures { λ r. ⌜ r ≡ wordAt (now (s .entry)) at ⌝ }
 {
     let start = past_blanks(s, at);
@@ -51,7 +51,7 @@ pub(crate) fn word_at(s: &[u8], at: usize) -> Word
     }
 }
 
-pub(crate) fn is_same(s: &[u8], t: &[u8]) -> bool
+pub fn is_same(s: &[u8], t: &[u8]) -> bool
     ensures { λ r. ⌜ r ≡ same (now (s .entry)) (now (t .entry)) ⌝ }
 {
     if s.len() != t.len() {

@@ -7,7 +7,7 @@ use Rattle.bench.proofs.serve.Statement.{statement}
 use Rattle.bench.proofs.serve.Tie as tie
 use Rattle.bench.proofs.serve.Reads as reads
 use Rattle.bench.proofs.serve.Lts as lts
-use Rattle.answers.proofs.lines.gather.Reads as gather-reads
+use Rattle.words.proofs.lines.gather.Reads as gather-reads
 use Rattle.bench.proofs.say.Reads as say-reads
 
 abbrev Inv-loop : tie.InvT-loop

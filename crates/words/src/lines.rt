@@ -2,7 +2,7 @@
 ghost use mathlib.Core.Path.{_≡_};
 ghost use Prim.Native.Nat.{_+_, _≤_};
 ghost use lib.ListN.{length, drop};
-ghost use Rattle.answers.specs.Lines.{lineEnd, piece, withPiece, gathered};
+ghost use Rattle.words.specs.Lines.{lineEnd, piece, withPiece, gathered};
 
 // Where the next line begins, how long this one is by now, and whether it is whole.
 pub struct Gathered {

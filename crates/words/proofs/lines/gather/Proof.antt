@@ -7,12 +7,12 @@ use native.Mathlib.Omega.{arith}
 use lib.Dec.{ltb}
 use lib.ListN.{length}
 use borrow.Author.Tests.{ltb-true}
-use Rattle.answers.proofs.LineLaws.{next-whole, next-cut, gather-long, gather-on}
-use Rattle.answers.proofs.lines.gather.Statement.{statement}
-use Rattle.answers.proofs.lines.gather.Tie as tie
-use Rattle.answers.proofs.lines.gather.Reads as reads
-use Rattle.answers.proofs.lines.gather.Lts as lts
-use Rattle.answers.proofs.lines.line_end.Reads as line-end-reads
+use Rattle.words.proofs.LineLaws.{next-whole, next-cut, gather-long, gather-on}
+use Rattle.words.proofs.lines.gather.Statement.{statement}
+use Rattle.words.proofs.lines.gather.Tie as tie
+use Rattle.words.proofs.lines.gather.Reads as reads
+use Rattle.words.proofs.lines.gather.Lts as lts
+use Rattle.words.proofs.lines.line_end.Reads as line-end-reads
 use Rattle.octets.proofs.part.Reads as part-reads
 use Rattle.octets.proofs.put.Reads as put-reads
 

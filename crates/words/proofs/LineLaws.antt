@@ -11,7 +11,7 @@ use lib.Dec.{eqb, ltb}
 use borrow.Author.Tests.{eq-eqb, ne-eqb, lt-ltb, le-ltb, ltb-true}
 use Rattle.octets.specs.Part.{between}
 use Rattle.octets.specs.Splice.{splice}
-use Rattle.answers.specs.Lines.{lineEnd, piece, held, withPiece, gathered}
+use Rattle.words.specs.Lines.{lineEnd, piece, held, withPiece, gathered}
 
 pub line-here : (s : List ℕ) (i : ℕ) → i < length s → getD s i 0 ≡ 10 → i + lineEnd (drop i s) ≡ i
 unfolding lineEnd

@@ -2,12 +2,12 @@ use borrow.Author.Needs.{needs}
 use Prim.Native.Nat.{_+_, _-_}
 use mathlib.Core.Path.{_≡_, refl, sym, _∙_}
 use lib.ListN.{length, drop}
-use Rattle.answers.specs.Lines.{lineEnd}
-use Rattle.answers.proofs.LineLaws.{line-here, line-on, line-over}
-use Rattle.answers.proofs.lines.line_end.Statement.{statement}
-use Rattle.answers.proofs.lines.line_end.Tie as tie
-use Rattle.answers.proofs.lines.line_end.Reads as reads
-use Rattle.answers.proofs.lines.line_end.Lts as lts
+use Rattle.words.specs.Lines.{lineEnd}
+use Rattle.words.proofs.LineLaws.{line-here, line-on, line-over}
+use Rattle.words.proofs.lines.line_end.Statement.{statement}
+use Rattle.words.proofs.lines.line_end.Tie as tie
+use Rattle.words.proofs.lines.line_end.Reads as reads
+use Rattle.words.proofs.lines.line_end.Lts as lts
 
 abbrev Inv-loop : tie.InvT-loop
 Inv-loop s from i₀ i = i + lineEnd (drop i s) ≡ from + lineEnd (drop from s)

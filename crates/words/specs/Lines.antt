@@ -5,7 +5,7 @@ use mathlib.Core.Bool.{cond}
 use lib.ListN.{length, take, drop}
 use lib.Dec.{eqb, ltb}
 use Rattle.octets.specs.Splice.{splice}
-use Rattle.answers.specs.declared.lines.Gathered.{Gathered}
+use Rattle.words.specs.declared.lines.Gathered.{Gathered}
 
 -- how many octets stand before the first 10
 unfoldable pub lineEnd : List ℕ → ℕ
