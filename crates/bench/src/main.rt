@@ -1,9 +1,9 @@
 // Lines from standard input, each answered on standard output.
 use answers::answer::Held;
 use answers::answer::answer_line;
-use words::lines::gather;
 use libc::STDIN_FILENO;
 use libc::STDOUT_FILENO;
+use words::lines::gather;
 ghost use Prim.Native.Nat.{_≤_};
 
 // So much of a line is there, so many lines were before it; how long the table and the reply buffer are.

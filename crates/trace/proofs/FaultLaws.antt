@@ -7,12 +7,12 @@ use native.Mathlib.Omega.{arith}
 use lib.ListN.{length, take}
 use lib.Dec.{eqb, leb}
 use borrow.Author.Tests.{eqb-true, eqb-false, leb-true, eq-eqb, le-leb}
-use Rattle.octets.specs.Reader.{Answer, fault, sound, check}
+use Rattle.octets.specs.Reader.{Answer, fault, sound, andThen, check}
 use Rattle.octets.proofs.FaultLaws.{Faults, check-faults}
 use Rattle.octets.proofs.ReaderLaws.{passed}
 use Rattle.trace.specs.Numbers.{sumOf}
 use Rattle.trace.specs.Records.{Record, badRecord, recordsIn}
-use Rattle.trace.specs.Blocks.{shortBlock, wrongSum, wrongUse, numberIn, sumIn, usedIn, recordPart, restPart, allZero, blockRecords, faultOf}
+use Rattle.trace.specs.Blocks.{shortBlock, wrongSum, wrongUse, wrongNumber, recordsAt, numberIn, sumIn, usedIn, recordPart, restPart, allZero, blockRecords, faultOf}
 use Rattle.trace.proofs.RecordLaws.{records-fault}
 use Rattle.trace.proofs.Paths.{is-short}
 
@@ -70,3 +70,17 @@ is-whole b h = go (eqb (length b) 512) refl
     go : (t : Bool) → eqb (length b) 512 ≡ t → length b ≡ 512
     go true e = eqb-true (length b) 512 e
     go false e = absurd (h (sym (is-short b (eqb-false (length b) 512 e))))
+
+-- no fault at its place: there are records
+pub at-sound : (place : ℕ) (b : List ℕ) → faultOf (recordsAt place b) ≡ 0 → (row : List Record) × ((recordsAt place b ≡ sound row) × IsSound b row)
+unfolding recordsAt
+at-sound place b e = go (blockRecords b) refl (block-faults b) e
+  where
+    passes : (row : List Record) (t : Bool) → faultOf (check t wrongNumber (sound row)) ≡ 0 → check t wrongNumber (sound row) ≡ sound row
+    passes row true e = refl
+    passes row false e = absurd (omega arith)
+
+    go : (o : Answer (List Record)) → blockRecords b ≡ o → Faults OfBlock o → faultOf (andThen o (λ records. check (eqb (numberIn b) place) wrongNumber (sound records))) ≡ 0
+        → (row : List Record) × ((andThen o (λ records. check (eqb (numberIn b) place) wrongNumber (sound records)) ≡ sound row) × IsSound b row)
+    go (fault n) q f e = let h = f .0 in absurd (omega arith)
+    go (sound row) q f e = (row, (passes row (eqb (numberIn b) place) e, sound-was b row q))

@@ -1,0 +1,5 @@
+pub mod Shown
+pub mod Listed
+pub mod Told
+pub mod Desk
+pub mod Book
