@@ -3,4 +3,4 @@ pub mod RecordLaws
 mod Paths
 pub mod BlockLaws
 pub mod FaultLaws
-mod CallPaths
+pub mod CallPaths

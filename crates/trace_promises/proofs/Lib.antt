@@ -1,0 +1,9 @@
+mod FileLaws
+mod SealLaws
+pub mod Blocks
+pub mod Faults
+mod WrittenLaws
+pub mod Written
+pub mod Built
+mod RenumberLaws
+pub mod Mended
