@@ -1,6 +1,7 @@
 /* How deep each call goes: it runs on a painted stack, and the paint that is gone
  * is counted. Prints a line for each, in octets. */
 #define _GNU_SOURCE
+#include "block.h"
 #include "image.h"
 #include "smrcholet.h"
 
@@ -33,6 +34,9 @@ static const uint8_t rejected[] = {0x8B, 0x3A, 0x02, 0xA5, 0x00};
 static uint8_t string[160], lines[SMR_LINE_OCTETS];
 static uint16_t characters[SMR_CHARACTERS];
 
+/* A block of a trace, and the longest message that it may get. */
+static uint8_t block[SMR_BLOCK], message[SMR_MESSAGE];
+
 static void nothing(void) {}
 static void receive(void) { smr_receive(table, SMR_TABLE, given, given_length, buffer, SMR_REPLY); }
 static void batch(void) { smr_batch(table, SMR_TABLE, records, records_length, slots, sizeof slots); }
@@ -42,6 +46,8 @@ static void result(void) { smr_result(table, SMR_TABLE, 0, 0, 5, text, sizeof te
 static void error(void) { smr_error(table, SMR_TABLE, 0, 0, 5, 1, guidance, sizeof guidance, buffer, sizeof buffer); }
 static void release(void) { smr_release(table, SMR_TABLE, 0, 0, buffer, sizeof buffer); }
 static void cells(void) { smr_cells(0x0F, string, sizeof string, characters, SMR_CHARACTERS, lines, sizeof lines); }
+static void trace_begin(void) { smr_trace_begin(block, SMR_BLOCK, 1); }
+static void trace_add(void) { smr_trace_add(block, SMR_BLOCK, 1, message, given_length); }
 
 static size_t larger(size_t a, size_t b) { return a > b ? a : b; }
 
@@ -70,6 +76,27 @@ static size_t depth_of_cells(void)
         deepest = larger(deepest, depth(cells, ""));
     }
     return deepest;
+}
+
+/* The deepest of records added to a block until one doesn't fit, and of each fault of it. */
+static size_t depth_of_trace_add(void)
+{
+    static const size_t lengths[] = {1, SMR_MESSAGE, 0};
+    size_t deepest = 0;
+    for (size_t k = 0; k < sizeof lengths / sizeof *lengths; k++) {
+        given_length = lengths[k];
+        plain_begin(block, SMR_BLOCK, 1);
+        for (int i = 0; i < RECORDS; i++) deepest = larger(deepest, depth(trace_add, ""));
+    }
+    plain_add(block, SMR_BLOCK, 1, message, 1);
+    block[RECORDS_AT] = 2; /* a record, then the use count, then the sum */
+    for (unsigned used = 3; used < 1000; used += 700) {
+        put_used(block, used);
+        put_sum(block);
+        deepest = larger(deepest, depth(trace_add, ""));
+    }
+    block[SUMMED]++;
+    return larger(deepest, depth(trace_add, ""));
 }
 
 static void add_record(void)
@@ -127,5 +154,7 @@ int main(void)
     print("smr_error", depth(error, peer) - none);
     print("smr_release", depth(release, peer) - none);
     print("smr_cells", depth_of_cells() - none);
+    print("smr_trace_begin", depth(trace_begin, "") - none);
+    print("smr_trace_add", depth_of_trace_add() - none);
     return 0;
 }
