@@ -264,7 +264,8 @@ impl Words {
     }
 }
 
-fn octet_of(pair: &[u8]) -> Option<u8> {
+/// Two digits, capital or small.
+pub(crate) fn octet_of(pair: &[u8]) -> Option<u8> {
     let &[high, low] = pair else {
         return None;
     };
@@ -421,7 +422,7 @@ fn written(word: &str, given: &[u8]) -> Vec<String> {
 
 /// The word and the octets; "a line that would pass forty characters goes on in
 /// the next, which starts with a space".
-fn octets(word: &str, given: &[u8]) -> Vec<String> {
+pub(crate) fn octets(word: &str, given: &[u8]) -> Vec<String> {
     let beside_word = (WIDTH - word.len()) / OCTET_WIDTH;
     let (beside, below) = given.split_at(beside_word.min(given.len()));
     let first = word.to_string() + &spaced(beside);

@@ -75,6 +75,13 @@ pub struct Laid {
     pub lines: usize,
 }
 
+#[repr(C)]
+#[derive(Clone, Copy, Debug, Default, PartialEq, Eq)]
+pub struct Traced {
+    pub code: u8,
+    pub added: Bool,
+}
+
 extern "C" {
     fn smr_receive(
         table: *mut u8,
@@ -161,6 +168,16 @@ extern "C" {
         lines: *mut u8,
         lines_length: usize,
     ) -> Laid;
+
+    fn smr_trace_begin(block: *mut u8, block_length: usize, number: u32) -> Traced;
+
+    fn smr_trace_add(
+        block: *mut u8,
+        block_length: usize,
+        direction: u8,
+        message: *const u8,
+        message_length: usize,
+    ) -> Traced;
 }
 
 pub fn receive(table: &mut [u8], message: &[u8], reply: &mut [u8]) -> Received {
@@ -348,4 +365,42 @@ pub fn cells_of_null(scheme: u8, lines: &mut [u8]) -> Laid {
     };
     // SAFETY: as in `receive`; "NULL is allowed where the length is 0".
     unsafe { smr_cells(scheme, string, 0, text, 0, octets, lines.len()) }
+}
+
+pub fn trace_begin(block: &mut [u8], number: u32) -> Traced {
+    // SAFETY: as in `receive`.
+    unsafe { smr_trace_begin(block.as_mut_ptr(), block.len(), number) }
+}
+
+pub fn trace_add(block: &mut [u8], direction: u8, message: &[u8]) -> Traced {
+    // SAFETY: as in `receive`.
+    unsafe {
+        smr_trace_add(
+            block.as_mut_ptr(),
+            block.len(),
+            direction,
+            message.as_ptr(),
+            message.len(),
+        )
+    }
+}
+
+/// A block of length 0, lent as NULL.
+pub fn trace_begin_of_null(number: u32) -> Traced {
+    // SAFETY: "NULL is allowed where the length is 0".
+    unsafe { smr_trace_begin(std::ptr::null_mut(), 0, number) }
+}
+
+/// The same as `trace_add`, each slice of length 0 lent as NULL.
+pub fn trace_add_with_null(block: &mut [u8], direction: u8, message: &[u8]) -> Traced {
+    let lent = match block {
+        [] => std::ptr::null_mut(),
+        _ => block.as_mut_ptr(),
+    };
+    let octets = match message {
+        [] => std::ptr::null(),
+        _ => message.as_ptr(),
+    };
+    // SAFETY: as in `receive`; "NULL is allowed where the length is 0".
+    unsafe { smr_trace_add(lent, block.len(), direction, octets, message.len()) }
 }

@@ -21,6 +21,7 @@ pub mod receive;
 pub mod septets;
 pub mod step6;
 pub mod table;
+pub mod trace;
 pub mod view;
 pub mod write;
 

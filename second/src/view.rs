@@ -8,6 +8,7 @@ use crate::ffi;
 use crate::parameter::Text;
 use crate::part::Part;
 use crate::receive::{Received, Shown};
+use crate::trace::calls::Traced;
 
 impl From<&Part> for ffi::Span {
     fn from(part: &Part) -> ffi::Span {
@@ -127,6 +128,15 @@ impl From<&Laid> for ffi::Laid {
             code: laid.code,
             characters: laid.text.len(),
             lines: laid.line_count(),
+        }
+    }
+}
+
+impl From<&Traced> for ffi::Traced {
+    fn from(traced: &Traced) -> ffi::Traced {
+        ffi::Traced {
+            code: traced.code,
+            added: traced.added.into(),
         }
     }
 }

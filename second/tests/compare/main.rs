@@ -1,9 +1,11 @@
 //! The proved archives and the second program, compared call by call.
 //!
 //! Each module is one idea: `both` runs a call on the two and compares them, `batch` a
-//! batch, `cells` does so for text on forty cells, the others bring the calls.
+//! batch, `cells` does so for text on forty cells, `trace` for the blocks of a trace, the
+//! others bring the calls.
 
 mod batch;
+mod blocks;
 mod both;
 mod call;
 mod calls;
@@ -39,5 +41,6 @@ mod tables;
 mod talks;
 mod tally;
 mod texts;
+mod trace;
 mod waiting;
 mod wishes;

@@ -96,6 +96,12 @@ impl Tally {
         self.check_once_in(CALLS, named);
     }
 
+    /// Whether only these numbers of that name have occurred.
+    pub fn has_no_other(&self, name: &str, numbers: &[u8]) -> bool {
+        let mut counted = self.counts.keys().filter(|(n, _)| *n == name);
+        counted.all(|(_, number)| numbers.contains(number))
+    }
+
     fn check_once_in(
         &self,
         calls: u64,
@@ -109,9 +115,10 @@ impl Tally {
                     panic!("too few");
                 }
             }
-            let others = self.counts.keys().filter(|(n, _)| *n == name);
-            let known = others.clone().all(|(_, number)| numbers.contains(number));
-            assert!(known, "a number that isn't named");
+            assert!(
+                self.has_no_other(name, numbers),
+                "a number that isn't named"
+            );
         }
     }
 }
