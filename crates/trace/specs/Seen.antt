@@ -36,3 +36,9 @@ mended kept b Kept = b
 mended kept b (Renumbered number) = renumbered kept b
 mended kept b (Dropped number n) = b
 mended kept b Short = b
+
+abbrev pub isKept : Fate → Bool
+isKept Kept = true
+isKept (Renumbered number) = true
+isKept (Dropped number n) = false
+isKept Short = false

@@ -5,7 +5,7 @@ use crate::blocks::number_in;
 use crate::blocks::put_number;
 ghost use mathlib.Core.Path.{_≡_};
 ghost use Rattle.trace.specs.Salvage.{fateOf};
-ghost use Rattle.trace.specs.Seen.{mended};
+ghost use Rattle.trace.specs.Seen.{mended, isKept};
 
 // The next block of a file, where so many were kept before it.
 pub fn mend_block(block: &mut [u8], kept: u64) -> Fate
@@ -28,4 +28,19 @@ pub fn mend_block(block: &mut [u8], kept: u64) -> Fate
     }
     put_number(block, (kept % 4294967296) as u32);
     Fate::Renumbered { number: number }
+}
+
+// Whether the block is written.
+pub fn is_kept(fate: Fate) -> bool
+    ensures { λ r. ⌜ r ≡ isKept fate ⌝ }
+{
+    match fate {
+        Fate::Kept => true,
+        Fate::Renumbered { number: _ } => true,
+        Fate::Dropped {
+            number: _,
+            fault: _,
+        } => false,
+        Fate::Short => false,
+    }
 }

@@ -1,2 +1,3 @@
 mod ShownLaws
 mod ToldLaws
+mod TurnLaws

@@ -2,11 +2,13 @@
 use Prim.Native.Nat.{ℕ}
 use mathlib.Core.List.{List}
 use mathlib.Core.Option.{Option, none, some}
-use mathlib.Core.Bool.{Bool, true, false, cond}
+use mathlib.Core.Bool.{Bool, true, false, cond, not}
 use lib.Dec.{eqb}
 use Rattle.octets.specs.Unless.{unless}
 use Rattle.trace.specs.Steps.{wrote, holds, handsOver}
-use Rattle.trace_lines.specs.Told.{Begun, recordOf}
+use Rattle.trace_lines.specs.Told.{Begun, recordOf, Next, goes, refuses, ends, followed}
+use Rattle.trace_lines.specs.Desk.{keptIf}
+use Rattle.trace_lines.specs.declared.told.Kind.{Kind}
 use Rattle.trace_lines.specs.declared.book.Book.{Book}
 
 abbrev pub stays : Book → ℕ → Book
@@ -30,3 +32,25 @@ heldAfter (some b) held number = holds held number (recordOf b)
 unfoldable pub fullAfter : Option Begun → List ℕ → List ℕ → List ℕ
 fullAfter none held full = full
 fullAfter (some b) held full = handsOver full held (recordOf b)
+
+-- one line: the record that it ends, and what is begun behind it
+abbrev pub settled : Kind → Option Begun → Option Begun
+settled kind begun = keptIf (ends kind) begun
+
+unfoldable pub nextBy : Kind → List ℕ → ℕ → Option Begun → List ℕ → Book → Next
+nextBy kind line n begun held book =
+    unless (eqb (bookAfter (settled kind begun) held book .refused) 0) (refuses (bookAfter (settled kind begun) held book .refused))
+    (followed kind line n (keptIf (not (ends kind)) begun))
+
+abbrev pub refusedBy : Next → ℕ
+refusedBy (goes begun) = 0
+refusedBy (refuses n) = n
+
+unfoldable pub bookBy : Kind → List ℕ → ℕ → Option Begun → List ℕ → Book → Book
+bookBy kind line n begun held book =
+    record {
+      «is_open» = bookAfter (settled kind begun) held book .«is_open»;
+      number = bookAfter (settled kind begun) held book .number;
+      «is_full» = bookAfter (settled kind begun) held book .«is_full»;
+      refused = refusedBy (nextBy kind line n begun held book);
+    }

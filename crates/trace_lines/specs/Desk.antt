@@ -34,3 +34,10 @@ Follows next after pen = (nextSeen pen after ≡ next) × Ready pen
 
 abbrev pub Refuses : ℕ → Pen → Type 0
 Refuses line pen = (after : List ℕ) → Follows (refuses line) after pen
+
+-- the record that is begun, where a test holds; else none
+abbrev pub keptIf : {A : Type 0} → Bool → Option A → Option A
+keptIf there begun = cond there begun none
+
+abbrev pub PenIf : Pen → Bool → Pen → Type 0
+PenIf pen there r = ((message : List ℕ) → penSeen r message ≡ keptIf there (penSeen pen message)) × (Ready r × (r .count ≡ pen .count))

@@ -64,3 +64,7 @@ readerText file = recordLines (readFile file .records) ++ lastLine (readFile fil
 abbrev pub recordsOr : Answer (List Record) → List Record
 recordsOr (fault n) = []
 recordsOr (sound records) = records
+
+-- C22: "if refused, one line: `line N refused 35`"
+unfoldable pub badLine : ℕ → List ℕ
+badLine line = fourLine (108 ∷ 105 ∷ 110 ∷ 101 ∷ 32 ∷ []) line refusedWord 35

@@ -15,7 +15,7 @@ ghost use Rattle.printing.specs.Page.{WroteWithin, Filled};
 ghost use Rattle.trace.specs.Records.{recordsIn};
 ghost use Rattle.trace.specs.Blocks.{recordsAt, faultOf};
 ghost use Rattle.trace.specs.Seen.{isSound};
-ghost use Rattle.trace_lines.specs.Shown.{fourLine, recordLine, recordLines, recordsOr, blockText};
+ghost use Rattle.trace_lines.specs.Shown.{fourLine, recordLine, recordLines, recordsOr, blockText, badLine};
 
 // How much of the page is written, and whether the block is refused.
 pub struct Shown {
@@ -88,4 +88,11 @@ pub fn block_lines(page: &mut [u8; 16384], block: &[u8], place: u64) -> Shown
         written: written,
         is_refused: false,
     }
+}
+
+// The line on which a bad record begins.
+pub fn refused_at(page: &mut [u8; 80], line: u64) -> usize
+    ensures { λ r. ⌜ Filled 80 (now (page .entry)) (badLine line) (now (page .exit)) r ⌝ }
+{
+    four_line(page, 0, b"line ", line, b" refused ", 35)
 }

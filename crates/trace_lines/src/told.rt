@@ -99,7 +99,7 @@ fn join(text: &[u8], message: &mut [u8], count: usize) -> usize
     }
 }
 
-fn refuse(line: u64) -> Pen
+pub(crate) fn refuse(line: u64) -> Pen
     requires { ⌜ 1 ≤ line ⌝ }
     ensures { λ r. ⌜ Refuses line r ⌝ }
 {
