@@ -1,4 +1,5 @@
 mod LineLaws
+pub mod Onward
 mod WordLaws
 mod NumberLaws
 mod PlaceLaws

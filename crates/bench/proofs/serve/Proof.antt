@@ -2,7 +2,7 @@ use borrow.Author.Needs.{needs}
 use native.Mathlib.Omega.{arith}
 use Prim.Native.Nat.{_≤_, _-_}
 use lib.ListN.{length}
-use Rattle.bench.proofs.Onward.{onward}
+use Rattle.words.proofs.Onward.{onward}
 use Rattle.bench.proofs.serve.Statement.{statement}
 use Rattle.bench.proofs.serve.Tie as tie
 use Rattle.bench.proofs.serve.Reads as reads
