@@ -40,3 +40,7 @@ two-written n h = let e : n / 256 % 256 ≡ n / 256 = omega arith in rw e
 
 pub four-written : (n : ℕ) → n < 4294967296 → n / 16777216 ∷ n / 65536 % 256 ∷ n / 256 % 256 ∷ n % 256 ∷ [] ≡ four n
 four-written n h = let e : n / 16777216 % 256 ≡ n / 16777216 = omega arith in rw e
+
+pub sum-below : (s : List ℕ) → sumOf s < 65536
+unfolding sumOf
+sum-below s = omega arith

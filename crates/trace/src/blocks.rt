@@ -3,7 +3,7 @@ use crate::reading::are_records;
 ghost use mathlib.Core.Path.{_≡_};
 ghost use mathlib.Core.List.{[]};
 ghost use mathlib.Core.Bool.{true};
-ghost use Prim.Native.Nat.{_+_, _≤_};
+ghost use Prim.Native.Nat.{_+_, _%_, _≤_, _<_};
 ghost use lib.ListN.{length, take};
 ghost use Rattle.octets.specs.Splice.{splice};
 ghost use Rattle.trace.specs.Numbers.{two, four, pairAt, sumOf};
@@ -27,13 +27,24 @@ pub(crate) fn number_in(block: &[u8]) -> u32
     (pair_at(block, 0) * 65536 + pair_at(block, 2)) as u32
 }
 
-fn sum_of(s: &[u8]) -> u16
+// Modulo 65,536 by a test: a sum that only adds is made of wide registers, at five times the octets of code.
+fn wrapped(n: usize) -> usize
+    requires { ⌜ n < 131072 ⌝ }
+    ensures { λ r. ⌜ r ≡ n % 65536 ⌝ }
+{
+    if n < 65536 {
+        return n;
+    }
+    n - 65536
+}
+
+fn sum_of(s: &[u8]) -> usize
     ensures { λ r. ⌜ r ≡ sumOf (now (s .entry)) ⌝ }
 {
-    let mut sum = 0u16;
+    let mut sum = 0;
     let mut i = 0;
     while i < s.len() {
-        sum = std::num::wrapping_add_u16(sum, s[i] as u16);
+        sum = wrapped(sum + s[i] as usize);
         i += 1;
     }
     sum
@@ -59,7 +70,7 @@ pub(crate) fn block_fault(block: &[u8]) -> u8
     if block.len() != 512 {
         return 32;
     }
-    if sum_of(&block[..510]) as usize != pair_at(block, 510) {
+    if sum_of(&block[..510]) != pair_at(block, 510) {
         return 33;
     }
     let used = pair_at(block, 4);
@@ -75,8 +86,8 @@ pub(crate) fn block_fault(block: &[u8]) -> u8
     0
 }
 
-fn put_pair(block: &mut [u8], at: usize, n: u16)
-    requires { ⌜ at + 2 ≤ length (now block) ⌝ }
+fn put_pair(block: &mut [u8], at: usize, n: usize)
+    requires { ⌜ (at + 2 ≤ length (now block)) × (n < 65536) ⌝ }
     ensures { λ _. ⌜ now (block .exit) ≡ splice (now (block .entry)) at (two n) ⌝ }
 {
     let octets = [(n / 256) as u8, (n % 256) as u8];
@@ -135,6 +146,6 @@ pub(crate) fn put_record(block: &mut [u8], used: usize, direction: u8, message: 
     let octets = [direction, message.len() as u8];
     octets::put(block, 6 + used, &octets);
     octets::put(block, 8 + used, message);
-    put_pair(block, 4, (used + 2 + message.len()) as u16);
+    put_pair(block, 4, used + 2 + message.len());
     seal(block);
 }

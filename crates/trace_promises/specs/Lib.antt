@@ -3,3 +3,5 @@ pub mod Faults
 pub mod Written
 pub mod Mended
 pub mod Built
+pub mod Programs
+pub mod Retold

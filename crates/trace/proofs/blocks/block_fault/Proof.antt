@@ -25,9 +25,6 @@ slice-aggregate-sum-of c = sym (length-take-le 510 (c .before .before .before .a
 sum-of-requires : tie.Need-sum-of-requires
 sum-of-requires c κs = search needs
 
-cast-if2 : tie.Need-cast-if2
-cast-if2 c = search needs
-
 pair-at-requires : tie.Need-pair-at-requires
 pair-at-requires c κs = search needs
 
@@ -102,7 +99,6 @@ block-fault-spec =
     returns
     slice-aggregate-sum-of
     sum-of-requires
-    cast-if2
     pair-at-requires
     returns-2
     pair-at-requires-2

@@ -25,7 +25,7 @@ same-length : tie.Need-same-length
 same-length c = search needs
 
 returns : tie.Need-returns
-returns c = c .before .before .put .ensures ∙ ap (splice (c .before .before .before .before .before .before .args .block .now) (c .before .before .before .before .before .before .args .at)) (two-written (c .before .before .before .before .before .before .args .n) (omega arith))
+returns c = c .before .before .put .ensures ∙ ap (splice (c .before .before .before .before .before .before .args .block .now) (c .before .before .before .before .before .before .args .at)) (two-written (c .before .before .before .before .before .before .args .n) (c .before .before .before .before .before .before .pre .1))
 
 pub put-pair-spec : {M : Type 1} → statement M
 put-pair-spec =

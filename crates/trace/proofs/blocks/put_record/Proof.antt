@@ -40,9 +40,6 @@ add-put-pair c = search needs
 add-put-pair-2 : tie.Need-add-put-pair-2
 add-put-pair-2 c = search needs
 
-cast-put-pair : tie.Need-cast-put-pair
-cast-put-pair c = search needs
-
 put-pair-requires : tie.Need-put-pair-requires
 put-pair-requires c κs = search needs
 
@@ -72,7 +69,6 @@ put-record-spec =
     put-requires-2
     add-put-pair
     add-put-pair-2
-    cast-put-pair
     put-pair-requires
     seal-requires
     same-length

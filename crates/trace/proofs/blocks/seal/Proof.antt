@@ -1,10 +1,11 @@
-use Rattle.trace.specs.Numbers.{two}
-use mathlib.Core.List.{_++_}
 use Rattle.trace.proofs.BlockLaws.{seal-put}
+use Rattle.trace.proofs.NumberLaws.{sum-below}
 use Rattle.trace.specs.Blocks.{sealed}
+use Rattle.trace.specs.Numbers.{two}
 use lib.Seq.{length-take-le}
 use lib.ListN.{take}
 use native.Mathlib.Omega.{arith}
+use mathlib.Core.List.{_++_}
 use mathlib.Core.Path.{_∙_, ap, sym}
 use borrow.Author.Needs.{needs}
 use Rattle.trace.proofs.blocks.seal.Statement.{statement}
@@ -24,7 +25,7 @@ sum-of-requires : tie.Need-sum-of-requires
 sum-of-requires c κs = search needs
 
 put-pair-requires : tie.Need-put-pair-requires
-put-pair-requires c κs = search needs
+put-pair-requires c κs = (omega arith, rw (c .before .sum-of .ensures) (sum-below (take 510 (c .before .before .before .before .args .block .now))))
 
 same-length : tie.Need-same-length
 same-length c = search needs
