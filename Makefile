@@ -17,9 +17,10 @@ firmware:
 size:
 	firmware/size
 
-# How long each call takes.
+# How long each call takes, and the programs of a trace with a file of 10 MB.
 speed:
 	speed/run
+	speed/traces
 
 # make check CRATE=elements: prove one crate and those below it.
 check:

@@ -3,4 +3,5 @@ pub mod RecordLaws
 mod Paths
 pub mod BlockLaws
 pub mod FaultLaws
+pub mod Determined
 pub mod CallPaths

@@ -7,3 +7,4 @@ pub mod Written
 pub mod Built
 mod RenumberLaws
 pub mod Mended
+pub mod Cases

@@ -5,3 +5,4 @@ pub mod Mended
 pub mod Built
 pub mod Programs
 pub mod Retold
+pub mod Cases
