@@ -65,7 +65,7 @@ plain-cons : (c : ℕ) (s : List ℕ) → (c ≡ 10 → ⊥) → plain s ≡ tru
 unfolding plain
 plain-cons c s n h = rw (ne-eqb c 10 n) h
 
-plain-append : (a b : List ℕ) → plain a ≡ true → plain b ≡ true → plain (a ++ b) ≡ true
+pub plain-append : (a b : List ℕ) → plain a ≡ true → plain b ≡ true → plain (a ++ b) ≡ true
 unfolding plain
 plain-append [] b h k = k
 plain-append (c ∷ a) b h k = on-and (not (eqb c 10)) (λ e. plain-append a b e k) h
@@ -91,7 +91,7 @@ pub line-end : (column : ℕ) → column ≤ 40 → fortyFrom column (10 ∷ [])
 unfolding fortyFrom
 line-end column h = rw (le-leb column 40 h)
 
-plain-line : (w : List ℕ) → plain w ≡ true → length w ≤ 40 → forty (w ++ (10 ∷ [])) ≡ true
+pub plain-line : (w : List ℕ) → plain w ≡ true → length w ≤ 40 → forty (w ++ (10 ∷ [])) ≡ true
 unfolding forty
 plain-line w h l = behind 0 w (10 ∷ []) h (line-end (0 + length w) (omega arith))
 
@@ -100,7 +100,7 @@ glyph-plain : (b : Bool) (d : ℕ) → cond b (48 + d) (55 + d) ≡ 10 → ⊥
 glyph-plain true d e = omega arith
 glyph-plain false d e = omega arith
 
-pair-plain : (octet : ℕ) → plain (pair octet) ≡ true
+pub pair-plain : (octet : ℕ) → plain (pair octet) ≡ true
 unfolding pair plain
 pair-plain octet =
     plain-cons (glyph (octet / 16)) (glyph (octet % 16) ∷ []) (glyph-plain (ltb (octet / 16) 10) (octet / 16))
@@ -119,7 +119,7 @@ unfolding decimalBy plain
 decimal-plain zero n = (refl, omega arith)
 decimal-plain (suc k) n = one-more (ltb n 10) k n (n % 10) (decimalBy k (n / 10)) (decimal-plain k (n / 10))
 
-twenty : (n : ℕ) → (plain (decimal n) ≡ true) × (length (decimal n) ≤ 20)
+pub twenty : (n : ℕ) → (plain (decimal n) ≡ true) × (length (decimal n) ≤ 20)
 unfolding decimal
 twenty n = decimal-plain 20 n
 

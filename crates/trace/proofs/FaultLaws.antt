@@ -84,3 +84,12 @@ at-sound place b e = go (blockRecords b) refl (block-faults b) e
         → (row : List Record) × ((andThen o (λ records. check (eqb (numberIn b) place) wrongNumber (sound records)) ≡ sound row) × IsSound b row)
     go (fault n) q f e = let h = f .0 in absurd (omega arith)
     go (sound row) q f e = (row, (passes row (eqb (numberIn b) place) e, sound-was b row q))
+
+-- at its place: none is above 36
+pub at-faults : (place : ℕ) (b : List ℕ) → Faults (λ n. n < 100) (recordsAt place b)
+unfolding recordsAt
+at-faults place b = go (blockRecords b) (block-faults b)
+  where
+    go : (o : Answer (List Record)) → Faults OfBlock o → Faults (λ n. n < 100) (andThen o (λ records. check (eqb (numberIn b) place) wrongNumber (sound records)))
+    go (fault n) h = let u = h .1 in omega arith
+    go (sound row) h = check-faults (λ n. n < 100) (eqb (numberIn b) place) wrongNumber (sound row) (omega arith) tt

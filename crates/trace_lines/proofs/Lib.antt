@@ -1,3 +1,4 @@
 mod ShownLaws
+pub mod FortyLaws
 mod ToldLaws
 mod TurnLaws

@@ -22,19 +22,19 @@ block-modulo : (n : ℕ) (row : List Record) → blockOf (n % 4294967296) row �
 unfolding blockOf
 block-modulo n row = ap (λ (t : List ℕ). sealed (t ++ body (recordsOf row))) (four-modulo n)
 
-empty-zeros : blockOf 0 [] ≡ zeros 512
+pub empty-zeros : blockOf 0 [] ≡ zeros 512
 unfolding blockOf sealed body sumOf
 empty-zeros = refl
 
-held-none : Held []
+pub held-none : Held []
 held-none = (tt, omega arith)
 
-fits-first : (r : Record) → goodRecord r ≡ true → fits [] r ≡ true
+pub fits-first : (r : Record) → goodRecord r ≡ true → fits [] r ≡ true
 fits-first r g = let w = good-was r g in le-leb (0 + length (recordOctets r)) 504 (omega arith)
 
 -- the call that adds a record, on a block of a row
 module _ (n : ℕ) (held : List Record) (h : Held held) (r : Record) where
-  add-bad : goodRecord r ≡ false → addAnswer (blockOf n held) r ≡ refusedBy badRecord
+  pub add-bad : goodRecord r ≡ false → addAnswer (blockOf n held) r ≡ refusedBy badRecord
   unfolding addAnswer
   add-bad b = rw (block-back n held (h .1) (h .0), b)
 
@@ -46,11 +46,11 @@ module _ (n : ℕ) (held : List Record) (h : Held held) (r : Record) where
       λ i. sealed (block-front n held i ++ body (e i))
 
   module _ (g : goodRecord r ≡ true) where
-    add-good : addAnswer (blockOf n held) r ≡ done (fits held r)
+    pub add-good : addAnswer (blockOf n held) r ≡ done (fits held r)
     unfolding addAnswer
     add-good = rw (block-back n held (h .1) (h .0), g, block-used n held (h .1))
 
-    add-leaves : fits held r ≡ true → addLeaves (blockOf n held) r ≡ blockOf n (held ++ (r ∷ []))
+    pub add-leaves : fits held r ≡ true → addLeaves (blockOf n held) r ≡ blockOf n (held ++ (r ∷ []))
     unfolding addLeaves
     add-leaves f = rw (add-good, f) row-added
 
@@ -58,7 +58,7 @@ module _ (n : ℕ) (held : List Record) (h : Held held) (r : Record) where
 add-first : (n : ℕ) (r : Record) → goodRecord r ≡ true → addLeaves (blockOf n []) r ≡ blockOf n (r ∷ [])
 add-first n r g = add-leaves n [] held-none r g (fits-first r g)
 
-add-next : (n : ℕ) (r : Record) → goodRecord r ≡ true → addLeaves (blockOf (suc n % 4294967296) []) r ≡ blockOf (suc n) (r ∷ [])
+pub add-next : (n : ℕ) (r : Record) → goodRecord r ≡ true → addLeaves (blockOf (suc n % 4294967296) []) r ≡ blockOf (suc n) (r ∷ [])
 add-next n r g = add-first (suc n % 4294967296) r g ∙ block-modulo (suc n) (r ∷ [])
 
 begun : (b : List ℕ) (n : ℕ) → length b ≡ 512 → beginLeaves b n ≡ blockOf n []

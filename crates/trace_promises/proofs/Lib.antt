@@ -7,4 +7,10 @@ pub mod Written
 pub mod Built
 mod RenumberLaws
 pub mod Mended
+mod WriterLaws
+pub mod Programs
+mod HexBack
+mod LinesBack
+pub mod Retold
 pub mod Cases
+pub mod All

@@ -6,3 +6,4 @@ pub mod Built
 pub mod Programs
 pub mod Retold
 pub mod Cases
+pub mod All
