@@ -75,6 +75,11 @@ blockRecords b =
 unfoldable pub recordsAt : ℕ → List ℕ → Answer (List Record)
 recordsAt place b = andThen (blockRecords b) (λ records. check (eqb (numberIn b) place) wrongNumber (sound records))
 
+-- the records, where there are any
+abbrev pub recordsOr : Answer (List Record) → List Record
+recordsOr (fault n) = []
+recordsOr (sound records) = records
+
 -- the number of the first fault; 0 stands for none
 abbrev pub faultOf : {A : Type 0} → Answer A → ℕ
 faultOf (fault n) = n

@@ -18,10 +18,10 @@ use Rattle.printing.proofs.FoldLaws.{folded-length}
 use Rattle.trace.specs.Records.{Record, recordOctets, recordsOf, traceRecord, recordsIn}
 use Rattle.trace.specs.Seen.{isSound}
 use Rattle.trace.proofs.RecordLaws.{records-none, records-step, records-bad, records-were, sound-step}
-use Rattle.trace_lines.specs.Shown.{received, sent, wordOf, fourLine, blockWord, refusedWord, recordLine, recordLines, recordsOr, refusedLine, textBy, blockText}
+use Rattle.trace_lines.specs.Shown.{received, sent, wordOf, fourLine, blockWord, refusedWord, recordLine, recordLines, refusedLine, textBy, blockText}
 use Rattle.trace_lines.specs.Listed.{listedLine, listedLines}
 use Rattle.trace.specs.Salvage.{Listed}
-use Rattle.trace.specs.Blocks.{recordsAt, recordPart, faultOf}
+use Rattle.trace.specs.Blocks.{recordsAt, recordPart, recordsOr, faultOf}
 use Rattle.trace.proofs.FaultLaws.{at-sound}
 use Rattle.trace.proofs.BlockLaws.{record-length}
 use Rattle.octets.specs.Splice.{splice}

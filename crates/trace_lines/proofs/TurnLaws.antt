@@ -3,10 +3,10 @@ use Prim.Native.Nat.{ℕ, _≤_}
 use mathlib.Core.Path.{_≡_, refl, sym, ap, _∙_}
 use mathlib.Core.List.{List}
 use mathlib.Core.Option.{Option, none, some}
-use mathlib.Core.Bool.{Bool, true, false, cond, not, _&&_}
+use mathlib.Core.Bool.{Bool, true, false, cond, _&&_}
 use lib.Dec.{eqb}
 use borrow.Author.Tests.{eq-eqb, ne-eqb, eqb-true}
-use Rattle.trace_lines.specs.Told.{Begun, Next, goes, refuses, ends, followed}
+use Rattle.trace_lines.specs.Told.{Begun, Next, goes, refuses, followed}
 use Rattle.trace_lines.specs.Desk.{keptIf, nextSeen, penSeen}
 use Rattle.trace_lines.specs.Book.{bookAfter, settled, nextBy, refusedBy, bookBy}
 use Rattle.trace_lines.specs.declared.book.Book.{Book}
@@ -32,7 +32,7 @@ module _ (kind : Kind) (line : List ℕ) (n : ℕ) (begun : Option Begun) (held 
   unfolding nextBy bookBy
   turn-refused h = let z = ne-eqb (after .refused) 0 h in rw (← e, z) (refl, refl)
 
-  pub turn-goes : after .refused ≡ 0 → (next : Next) → next ≡ followed kind line n (keptIf (not (ends kind)) begun)
+  pub turn-goes : after .refused ≡ 0 → (next : Next) → next ≡ followed kind line n begun
       → (next ≡ nextBy kind line n begun held book)
       × (record { «is_open» = after .«is_open»; number = after .number; «is_full» = after .«is_full»; refused = refusedBy next } ≡ bookBy kind line n begun held book)
   unfolding nextBy bookBy

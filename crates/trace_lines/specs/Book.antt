@@ -2,7 +2,7 @@
 use Prim.Native.Nat.{ℕ}
 use mathlib.Core.List.{List}
 use mathlib.Core.Option.{Option, none, some}
-use mathlib.Core.Bool.{Bool, true, false, cond, not}
+use mathlib.Core.Bool.{Bool, true, false, cond}
 use lib.Dec.{eqb}
 use Rattle.octets.specs.Unless.{unless}
 use Rattle.trace.specs.Steps.{wrote, holds, handsOver}
@@ -40,7 +40,7 @@ settled kind begun = keptIf (ends kind) begun
 unfoldable pub nextBy : Kind → List ℕ → ℕ → Option Begun → List ℕ → Book → Next
 nextBy kind line n begun held book =
     unless (eqb (bookAfter (settled kind begun) held book .refused) 0) (refuses (bookAfter (settled kind begun) held book .refused))
-    (followed kind line n (keptIf (not (ends kind)) begun))
+    (followed kind line n begun)
 
 abbrev pub refusedBy : Next → ℕ
 refusedBy (goes begun) = 0

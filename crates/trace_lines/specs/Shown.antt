@@ -60,11 +60,6 @@ lastLine (some r) = refusedLine (r .place) (r .number)
 unfoldable pub readerText : List ℕ → List ℕ
 readerText file = recordLines (readFile file .records) ++ lastLine (readFile file .refused)
 
--- records that are there
-abbrev pub recordsOr : Answer (List Record) → List Record
-recordsOr (fault n) = []
-recordsOr (sound records) = records
-
 -- C22: "if refused, one line: `line N refused 35`"
 unfoldable pub badLine : ℕ → List ℕ
 badLine line = fourLine (108 ∷ 105 ∷ 110 ∷ 101 ∷ 32 ∷ []) line refusedWord 35

@@ -109,7 +109,7 @@ pub fn take_line(
             book: book,
         };
     }
-    let next = follow(kind, line, n, message, pen_if(pen, !ended));
+    let next = follow(kind, line, n, message, pen);
     Turn {
         pen: next,
         book: Book {

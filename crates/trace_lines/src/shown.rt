@@ -13,9 +13,9 @@ ghost use lib.ListN.{length};
 ghost use lib.Dec.{eqb};
 ghost use Rattle.printing.specs.Page.{WroteWithin, Filled};
 ghost use Rattle.trace.specs.Records.{recordsIn};
-ghost use Rattle.trace.specs.Blocks.{recordsAt, faultOf};
+ghost use Rattle.trace.specs.Blocks.{recordsAt, recordsOr, faultOf};
 ghost use Rattle.trace.specs.Seen.{isSound};
-ghost use Rattle.trace_lines.specs.Shown.{fourLine, recordLine, recordLines, recordsOr, blockText, badLine};
+ghost use Rattle.trace_lines.specs.Shown.{fourLine, recordLine, recordLines, blockText, badLine};
 
 // How much of the page is written, and whether the block is refused.
 pub struct Shown {

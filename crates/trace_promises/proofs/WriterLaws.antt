@@ -3,7 +3,7 @@ use Prim.Native.Nat.{ℕ, suc, _+_, _%_, _≤_}
 use mathlib.Core.Path.{_≡_, refl, sym, ap, _∙_}
 use mathlib.Core.List.{List, [], _∷_, _++_}
 use mathlib.Core.Option.{Option, none, some}
-use mathlib.Core.Bool.{Bool, true, false, cond, not}
+use mathlib.Core.Bool.{Bool, true, false, cond}
 use native.Mathlib.Omega.{arith}
 use lib.ListN.{length, drop}
 use lib.Dec.{eqb, leb}
@@ -163,7 +163,7 @@ module _ (opened : Bool) (number : ℕ) (row : List Record) (h : Opened opened r
 -- what follows the record that a line ends
 module _ (kind : Kind) (line : List ℕ) (n : ℕ) (begun : Option Begun) (others : List (List ℕ)) where
   abbrev next : Next
-  next = followed kind line n (keptIf (not (ends kind)) begun)
+  next = followed kind line n begun
 
   abbrev nextAfter : Book → Next
   nextAfter book = unless (eqb (book .refused) 0) (refuses (book .refused)) next
@@ -189,7 +189,7 @@ module _ (kind : Kind) (line : List ℕ) (n : ℕ) (begun : Option Begun) (other
 
   onward-goes : Goes → 1 ≤ n → Lined begun → (opened : Bool) (number : ℕ) (row : List Record) (f : Bool) (full : List ℕ) → Opened opened row
       → onward (bookOf opened number f 0) (blockOf number row) full ≡ due opened number row toldOn
-  onward-goes on l b opened number row f full h = go next (followed-lined kind line n (keptIf (not (ends kind)) begun) l (kept-lined (not (ends kind)) begun b))
+  onward-goes on l b opened number row f full h = go next (followed-lined kind line n begun l b)
     where
       go : (x : Next) → NextLined x
           → cond (eqb (refusedBy x) 0) (writesFrom (begunBy x) (bookOf opened number f (refusedBy x)) (blockOf number row) full (suc n) others) (stops (bookOf opened number f (refusedBy x)) (blockOf number row))
@@ -200,13 +200,15 @@ module _ (kind : Kind) (line : List ℕ) (n : ℕ) (begun : Option Begun) (other
 -- the record that a line ends, and what is told from that line on
 told-step : (line : List ℕ) (n : ℕ) (begun : Option Begun) (others : List (List ℕ))
     → finished (settled (lineKind line) begun) (toldOn (lineKind line) line n begun others) ≡ toldFrom begun n (line ∷ others)
-unfolding toldFrom
-told-step line n begun others = go (λ later. toldFrom later (suc n) others) (ends (lineKind line))
+unfolding toldFrom followed
+told-step line n begun others = go (λ later. toldFrom later (suc n) others) (lineKind line)
   where
-    go : (on : Option Begun → Told) (t : Bool) → finished (keptIf t begun) (toldBy (followed (lineKind line) line n (keptIf (not t) begun)) on)
-        ≡ cond t (finished begun (toldBy (followed (lineKind line) line n none) on)) (toldBy (followed (lineKind line) line n begun) on)
-    go on true = refl
-    go on false = refl
+    go : (on : Option Begun → Told) (k : Kind) → finished (keptIf (ends k) begun) (toldBy (followed k line n begun) on)
+        ≡ cond (ends k) (finished begun (toldBy (followed k line n none) on)) (toldBy (followed k line n begun) on)
+    go on Passed = refl
+    go on Onward = refl
+    go on (First direction at) = refl
+    go on Other = refl
 
 pub writes-from : (begun : Option Begun) (opened : Bool) (number : ℕ) (row : List Record) (f : Bool) (refused : ℕ) (full : List ℕ) (n : ℕ) (lines : List (List ℕ))
     → 1 ≤ n → Lined begun → Opened opened row

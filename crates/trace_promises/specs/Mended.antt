@@ -9,7 +9,7 @@ use lib.ListN.{length}
 use lib.Dec.{eqb}
 use Rattle.octets.specs.Reader.{Answer, fault, sound}
 use Rattle.trace.specs.Records.{Record}
-use Rattle.trace.specs.Blocks.{numberIn, blockRecords}
+use Rattle.trace.specs.Blocks.{numberIn, blockRecords, recordsOr}
 use Rattle.trace.specs.Files.{Reading, blocksIn, readFile}
 use Rattle.trace.specs.Salvage.{Listed, dropped, renumbered36, short, Salvaged, renumbered, salvaged, mendedFile}
 use Rattle.trace_promises.specs.Blocks.{Numbered}
@@ -18,10 +18,6 @@ abbrev pub WholeStays : Type 0
 WholeStays = (file : List ℕ) → readFile file .refused ≡ none → (mendedFile file ≡ file) × (salvaged file .list ≡ [])
 
 -- the records of the blocks without a fault from 32 to 35, in order
-abbrev pub recordsOr : Answer (List Record) → List Record
-recordsOr (fault n) = []
-recordsOr (sound records) = records
-
 abbrev pub soundRecords : List (List ℕ) → List Record
 soundRecords [] = []
 soundRecords (b ∷ others) = recordsOr (blockRecords b) ++ soundRecords others

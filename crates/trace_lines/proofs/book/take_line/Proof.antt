@@ -2,8 +2,6 @@ use Rattle.trace_lines.proofs.TurnLaws.{pen-refused, turn-refused, turn
 use Rattle.trace_lines.specs.Book.{bookAfter, heldAfter, fullAfter}
 use Rattle.trace_lines.specs.Desk.{keptIf, penSeen}
 use Rattle.trace_lines.specs.Told.{ends, followed, kindIf}
-use native.Mathlib.Omega.{arith}
-use mathlib.Core.Bool.{not}
 use mathlib.Core.Path.{_≡_, refl, sym, _∙_, ap}
 use borrow.Author.Needs.{needs}
 use Rattle.trace_lines.proofs.book.take_line.Statement.{statement}
@@ -47,30 +45,29 @@ returns c =
     let r = c .refuse .ensures m in
     ((r .0 ∙ w .0, r .1), (w .1, (f .1 .0 ∙ ap (λ t. heldAfter t (a .held .now) (a .turn .book .number)) s, f .1 .1 ∙ ap (λ t. fullAfter t (a .held .now) (a .full .now)) s)))
 
-pen-if-requires-2 : tie.Need-pen-if-requires-2
-pen-if-requires-2 c κs = search needs
-
 follow-requires : tie.Need-follow-requires
-follow-requires c κs = (c .before .before .before .before .before .before .before .before .before .before .before .before .before .before .pre .0, (c .pen-if2 .ensures .1 .0, c .before .before .before .before .before .before .before .before .before .before .before .before .before .before .pre .1 .1))
+follow-requires c κs = search needs
 
 same-length-2 : tie.Need-same-length-2
 same-length-2 c = search needs
 
 returns-2 : tie.Need-returns-2
 returns-2 c =
-    let a = c .before .before .before .before .before .before .before .before .before .before .before .before .before .before .before .before .before .args in
+    let a = c .before .before .before .before .before .before .before .before .before .before .before .before .before .before .before .before .args in
     let m = a .message .now in
     let begun = penSeen (a .turn .pen) m in
-    let k = c .before .before .before .before .before .before .before .before .before .before .before .before .before .kind-of .ensures in
-    let d = c .before .before .before .before .before .before .before .before .before .before .before .before .is-ending .ensures ∙ ap ends k in
-    let s = c .before .before .before .before .before .before .before .before .before .before .before .pen-if .ensures .0 m ∙ ap (λ t. keptIf t begun) d in
-    let u = c .before .before .before .pen-if2 .ensures .0 m ∙ ap (λ t. keptIf (not t) begun) d in
-    let f = c .before .before .before .before .before .before .before .finish .ensures in
+    let k = c .before .before .before .before .before .before .before .before .before .before .before .before .kind-of .ensures in
+    let s = c .before .before .before .before .before .before .before .before .before .before .pen-if .ensures .0 m ∙ ap (λ t. keptIf t begun) (c .before .before .before .before .before .before .before .before .before .before .before .is-ending .ensures ∙ ap ends k) in
+    let f = c .before .before .before .before .before .before .finish .ensures in
     let g = c .before .before .follow .ensures in
-    let b = c .before .before .before .before .before .before .before .finish .result in
-    let q = g .0 ∙ ap (λ t. followed t (a .line .now) (a .n) (penSeen (c .before .before .before .pen-if2 .result) m)) k ∙ ap (followed (kindIf (a .long) (a .line .now)) (a .line .now) (a .n)) u in
-    let w = turn-goes (kindIf (a .long) (a .line .now)) (a .line .now) (a .n) begun (a .held .now) (a .turn .book) _ (f .0 ∙ ap (λ t. bookAfter t (a .held .now) (a .turn .book)) s) (c .before .before .before .before .before .if1 .left) _ q in
-    ((w .0, g .1), (ap (λ x. record { «is_open» = b .«is_open»; number = b .number; «is_full» = b .«is_full»; refused = x }) (pen-refused (c .before .before .follow .result) _) ∙ w .1, (f .1 .0 ∙ ap (λ t. heldAfter t (a .held .now) (a .turn .book .number)) s, f .1 .1 ∙ ap (λ t. fullAfter t (a .held .now) (a .full .now)) s)))
+    let b = c .before .before .before .before .before .before .finish .result in
+    let w = turn-goes (kindIf (a .long) (a .line .now)) (a .line .now) (a .n) begun (a .held .now) (a .turn .book) _ (f .0 ∙ ap (λ t. bookAfter t (a .held .now) (a .turn .book)) s) (c .before .before .before .before .if1 .left) _ (g .0 ∙ ap (λ t. followed t (a .line .now) (a .n) begun) k) in (
+      (w .0, g .1),
+      (
+        ap (λ x. record { «is_open» = b .«is_open»; number = b .number; «is_full» = b .«is_full»; refused = x }) (pen-refused (c .before .before .follow .result) _) ∙ w .1,
+        (f .1 .0 ∙ ap (λ t. heldAfter t (a .held .now) (a .turn .book .number)) s, f .1 .1 ∙ ap (λ t. fullAfter t (a .held .now) (a .full .now)) s),
+      ),
+    )
 
 pub take-line-spec : {M : Type 1} → statement M
 take-line-spec =
@@ -83,7 +80,6 @@ take-line-spec =
     refuse-requires
     same-length
     returns
-    pen-if-requires-2
     follow-requires
     same-length-2
     returns-2)
