@@ -3,14 +3,14 @@ use Prim.Native.Nat.{ℕ, suc, _+_, _≤_}
 use mathlib.Core.Path.{_≡_, refl, ap, _∙_}
 use mathlib.Core.List.{List, [], _∷_, _++_, append-assoc}
 use mathlib.Core.Option.{none}
-use mathlib.Core.Bool.{false}
+use mathlib.Core.Bool.{Bool, true, false, cond}
 use native.Mathlib.Omega.{arith}
 use lib.ListN.{length}
 use Rattle.trace.specs.Records.{Record, Good}
 use Rattle.trace.specs.Blocks.{blockOf}
 use Rattle.trace.specs.Files.{joined, blocksIn, readFrom, readFile}
 use Rattle.trace.specs.Writing.{fits, packFrom, packed, blocksFrom, blocksOf, fileOf}
-use Rattle.trace_promises.specs.Written.{ReadsBack, Row, Tight, inOrder, OpensLate}
+use Rattle.trace_promises.specs.Written.{ReadsBack, FewBlocks, Row, Tight, inOrder, OpensLate}
 use Rattle.trace_promises.proofs.FileLaws.{blocks-none, blocks-cons}
 use Rattle.trace_promises.proofs.WrittenLaws.{block-length, block-at, Held, held-first, held-more, by-test}
 
@@ -84,3 +84,17 @@ packed-tight (r ∷ others) g = pack-tight r [] others (held-first r (g .0)) (g 
 
 pub opens-late : OpensLate
 opens-late records g = (packed-order records, packed-tight records g)
+
+-- a block is opened by a record
+pack-few : (held records : List Record) → length (packFrom held records) ≤ suc (length records)
+pack-few held [] = omega arith
+pack-few held (r ∷ others) = go (fits held r) (pack-few (held ++ (r ∷ [])) others) (pack-few (r ∷ []) others)
+  where
+    go : (b : Bool) → length (packFrom (held ++ (r ∷ [])) others) ≤ suc (length others) → length (packFrom (r ∷ []) others) ≤ suc (length others)
+        → length (cond b (packFrom (held ++ (r ∷ [])) others) (held ∷ packFrom (r ∷ []) others)) ≤ suc (suc (length others))
+    go true p q = omega arith
+    go false p q = omega arith
+
+pub few-blocks : FewBlocks
+few-blocks [] = omega arith
+few-blocks (r ∷ others) = pack-few (r ∷ []) others

@@ -1,7 +1,7 @@
 -- All that is proved of trace files: what they are, their faults, writing and reading, salvage, the calls, the programs.
 use Rattle.trace_promises.specs.Blocks.{AllBlocks}
 use Rattle.trace_promises.specs.Faults.{InOrder, FirstFault}
-use Rattle.trace_promises.specs.Written.{ReadsBack, OpensLate}
+use Rattle.trace_promises.specs.Written.{ReadsBack, FewBlocks, OpensLate}
 use Rattle.trace_promises.specs.Mended.{WholeStays, ReadsMended, Settles, EachBlock}
 use Rattle.trace_promises.specs.Built.{CallsBuild, WriterBuilds}
 use Rattle.trace_promises.specs.Programs.{ReaderShows, SalvageGives, WriterWrites}
@@ -9,4 +9,4 @@ use Rattle.trace_promises.specs.Retold.{Retold}
 use Rattle.trace_promises.specs.Cases.{Cases}
 
 abbrev pub All : Type 0
-All = AllBlocks × (InOrder × (FirstFault × (ReadsBack × (OpensLate × (WholeStays × (ReadsMended × (Settles × (EachBlock × (CallsBuild × (WriterBuilds × (ReaderShows × (SalvageGives × (WriterWrites × (Retold × Cases))))))))))))))
+All = AllBlocks × (InOrder × (FirstFault × (ReadsBack × (FewBlocks × (OpensLate × (WholeStays × (ReadsMended × (Settles × (EachBlock × (CallsBuild × (WriterBuilds × (ReaderShows × (SalvageGives × (WriterWrites × (Retold × Cases)))))))))))))))

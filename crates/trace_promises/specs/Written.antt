@@ -14,6 +14,10 @@ abbrev pub ReadsBack : Type 0
 ReadsBack = (records : List Record) → Good records → length (packed records) ≤ 4294967296
     → readFile (fileOf records) ≡ record { records = records; refused = none }
 
+-- so any row of at most 4,294,967,296 records reads back: there are no more blocks than records
+abbrev pub FewBlocks : Type 0
+FewBlocks = (records : List Record) → length (packed records) ≤ length records
+
 -- a row has a record at least, and room in a block
 abbrev pub Row : List Record → Type 0
 Row [] = ⊥
