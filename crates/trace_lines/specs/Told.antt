@@ -42,7 +42,7 @@ pub record Begun : Type 0 where
 abbrev pub recordOf : Begun → Record
 recordOf b = record { direction = b .direction; message = b .message }
 
--- octets more, if they are whole octets in hex and pass 255 with those before in no case
+-- octets more: whole octets in hex, and at most 255 with those before
 abbrev pub grownBy : Begun → List ℕ → Ending → Option Begun
 grownBy b octets Whole =
     cond (leb (length (b .message) + length octets) 255) (some (record { direction = b .direction; message = b .message ++ octets; line = b .line })) none
