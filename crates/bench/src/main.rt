@@ -3,6 +3,7 @@ use answers::answer::Held;
 use answers::answer::answer_line;
 use libc::STDIN_FILENO;
 use libc::STDOUT_FILENO;
+use words::lines::counted;
 use words::lines::gather;
 ghost use Prim.Native.Nat.{_≤_};
 
@@ -12,14 +13,6 @@ struct Bench {
     number: u64,
     size: usize,
     room: usize,
-}
-
-// One line more. A count that can't go on stays.
-fn counted(number: u64) -> u64 {
-    if number < u64::MAX {
-        return number + 1;
-    }
-    number
 }
 
 // Answers a line.

@@ -27,7 +27,7 @@ pub(crate) fn number_in(block: &[u8]) -> u32
     (pair_at(block, 0) * 65536 + pair_at(block, 2)) as u32
 }
 
-// Modulo 65,536 by a test: a sum that only adds is made of wide registers, at five times the octets of code.
+// Modulo 65,536 by a test: a sum that only adds is made of wide registers, at four times the octets of code.
 fn wrapped(n: usize) -> usize
     requires { ⌜ n < 131072 ⌝ }
     ensures { λ r. ⌜ r ≡ n % 65536 ⌝ }

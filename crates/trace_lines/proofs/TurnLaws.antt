@@ -8,7 +8,7 @@ use lib.Dec.{eqb}
 use borrow.Author.Tests.{eq-eqb, ne-eqb, eqb-true}
 use Rattle.trace_lines.specs.Told.{Begun, Next, goes, refuses, followed}
 use Rattle.trace_lines.specs.Desk.{keptIf, nextSeen, penSeen}
-use Rattle.trace_lines.specs.Book.{bookAfter, settled, nextBy, refusedBy, bookBy}
+use Rattle.trace_lines.specs.Book.{bookAfter, settled, nextBy, refusedOn, bookBy}
 use Rattle.trace_lines.specs.declared.book.Book.{Book}
 use Rattle.trace_lines.specs.declared.told.Kind.{Kind}
 use Rattle.trace_lines.specs.declared.told.Pen.{Pen}
@@ -20,10 +20,10 @@ both-there false true a = refl
 both-there false false a = refl
 
 -- the line that is refused, as the record's state says it
-pub pen-refused : (pen : Pen) (message : List ℕ) → pen .refused ≡ refusedBy (nextSeen pen message)
+pub pen-refused : (pen : Pen) (message : List ℕ) → pen .refused ≡ refusedOn (nextSeen pen message)
 pen-refused pen message = go (eqb (pen .refused) 0) refl
   where
-    go : (t : Bool) → eqb (pen .refused) 0 ≡ t → pen .refused ≡ refusedBy (cond t (goes (penSeen pen message)) (refuses (pen .refused)))
+    go : (t : Bool) → eqb (pen .refused) 0 ≡ t → pen .refused ≡ refusedOn (cond t (goes (penSeen pen message)) (refuses (pen .refused)))
     go true e = eqb-true (pen .refused) 0 e
     go false e = refl
 
@@ -34,6 +34,6 @@ module _ (kind : Kind) (line : List ℕ) (n : ℕ) (begun : Option Begun) (held 
 
   pub turn-goes : after .refused ≡ 0 → (next : Next) → next ≡ followed kind line n begun
       → (next ≡ nextBy kind line n begun held book)
-      × (record { «is_open» = after .«is_open»; number = after .number; «is_full» = after .«is_full»; refused = refusedBy next } ≡ bookBy kind line n begun held book)
+      × (record { «is_open» = after .«is_open»; number = after .number; «is_full» = after .«is_full»; refused = refusedOn next } ≡ bookBy kind line n begun held book)
   unfolding nextBy bookBy
   turn-goes h next q = let z = eq-eqb (after .refused) 0 h in rw (← e, z, ← q) (refl, refl)

@@ -42,9 +42,9 @@ nextBy kind line n begun held book =
     unless (eqb (bookAfter (settled kind begun) held book .refused) 0) (refuses (bookAfter (settled kind begun) held book .refused))
     (followed kind line n begun)
 
-abbrev pub refusedBy : Next → ℕ
-refusedBy (goes begun) = 0
-refusedBy (refuses n) = n
+abbrev pub refusedOn : Next → ℕ
+refusedOn (goes begun) = 0
+refusedOn (refuses n) = n
 
 unfoldable pub bookBy : Kind → List ℕ → ℕ → Option Begun → List ℕ → Book → Book
 bookBy kind line n begun held book =
@@ -52,5 +52,5 @@ bookBy kind line n begun held book =
       «is_open» = bookAfter (settled kind begun) held book .«is_open»;
       number = bookAfter (settled kind begun) held book .number;
       «is_full» = bookAfter (settled kind begun) held book .«is_full»;
-      refused = refusedBy (nextBy kind line n begun held book);
+      refused = refusedOn (nextBy kind line n begun held book);
     }

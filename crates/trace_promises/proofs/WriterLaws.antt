@@ -19,7 +19,7 @@ use Rattle.trace.specs.Calls.{addLeaves}
 use Rattle.trace.specs.Steps.{wrote, holds, handsOver}
 use Rattle.trace_lines.specs.Told.{Begun, recordOf, grownBy, grown, Next, goes, refuses, orRefuses, onwardWith, followed, ends, lineKind, Told, badAt, finished, toldBy, toldFrom}
 use Rattle.trace_lines.specs.Desk.{keptIf}
-use Rattle.trace_lines.specs.Book.{bookAfter, heldAfter, fullAfter, settled, nextBy, refusedBy, bookBy}
+use Rattle.trace_lines.specs.Book.{bookAfter, heldAfter, fullAfter, settled, nextBy, refusedOn, bookBy}
 use Rattle.trace_lines.specs.declared.told.Kind.{Kind}
 use Rattle.trace_lines.specs.declared.told.Kind.the-variants.{Passed, Onward, First, Other}
 use Rattle.trace_lines.specs.declared.book.Book.{Book}
@@ -169,7 +169,7 @@ module _ (kind : Kind) (line : List ℕ) (n : ℕ) (begun : Option Begun) (other
   nextAfter book = unless (eqb (book .refused) 0) (refuses (book .refused)) next
 
   abbrev turned : Book → Book
-  turned book = record { «is_open» = book .«is_open»; number = book .number; «is_full» = book .«is_full»; refused = refusedBy (nextAfter book) }
+  turned book = record { «is_open» = book .«is_open»; number = book .number; «is_full» = book .«is_full»; refused = refusedOn (nextAfter book) }
 
   abbrev onward : Book → List ℕ → List ℕ → Writes
   onward book held full =
@@ -192,7 +192,7 @@ module _ (kind : Kind) (line : List ℕ) (n : ℕ) (begun : Option Begun) (other
   onward-goes on l b opened number row f full h = go next (followed-lined kind line n begun l b)
     where
       go : (x : Next) → NextLined x
-          → cond (eqb (refusedBy x) 0) (writesFrom (begunBy x) (bookOf opened number f (refusedBy x)) (blockOf number row) full (suc n) others) (stops (bookOf opened number f (refusedBy x)) (blockOf number row))
+          → cond (eqb (refusedOn x) 0) (writesFrom (begunBy x) (bookOf opened number f (refusedOn x)) (blockOf number row) full (suc n) others) (stops (bookOf opened number f (refusedOn x)) (blockOf number row))
           ≡ due opened number row (toldBy x (λ later. toldFrom later (suc n) others))
       go (goes later) m = on later opened number row f 0 full m h
       go (refuses bad) m = rw (ne-eqb bad 0 (λ z. absurd (omega arith))) (due-stops opened number row f bad (some bad) refl)

@@ -10,6 +10,7 @@ use trace_lines::book::finish;
 use trace_lines::book::take_line;
 use trace_lines::shown::refused_at;
 use trace_lines::told::Pen;
+use words::lines::counted;
 use words::lines::gather;
 ghost use Prim.Native.Nat.{_≤_};
 ghost use lib.ListN.{length};
@@ -29,16 +30,6 @@ fn is_going(desk: Desk) -> bool {
     let turn = desk.turn;
     let book = turn.book;
     !desk.is_lost & (book.refused == 0)
-}
-
-// One line more. A count that can't go on stays.
-fn counted(number: u64) -> u64
-    ensures { λ r. ⌜ 1 ≤ r ⌝ }
-{
-    if number < u64::MAX {
-        return number + 1;
-    }
-    number
 }
 
 // Writes the block that was handed over, if one was; whether that could be done.

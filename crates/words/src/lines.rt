@@ -1,6 +1,6 @@
 // Lines out of pieces of input.
 ghost use mathlib.Core.Path.{_≡_};
-ghost use Prim.Native.Nat.{_+_, _≤_};
+ghost use Prim.Native.Nat.{_+_, _≤_, min};
 ghost use lib.ListN.{length, drop};
 ghost use Rattle.words.specs.Lines.{lineEnd, piece, withPiece, gathered};
 
@@ -48,4 +48,14 @@ pub fn gather(input: &[u8], from: usize, line: &mut [u8; 16384], have: usize) ->
         have: have + more.len(),
         is_whole: is_whole,
     }
+}
+
+// One line more. A count that can't go on stays.
+pub fn counted(number: u64) -> u64
+    ensures { λ r. ⌜ r ≡ min (number + 1) 18446744073709551615 ⌝ }
+{
+    if number < u64::MAX {
+        return number + 1;
+    }
+    number
 }
