@@ -7,7 +7,8 @@ use Rattle.trace_promises.proofs.Mended.{whole-stays, reads-mended, set
 use Rattle.trace_promises.proofs.Built.{calls-build, writer-builds}
 use Rattle.trace_promises.proofs.Programs.{reader-shows, salvage-gives, writer-writes}
 use Rattle.trace_promises.proofs.Retold.{retold}
+use Rattle.trace_promises.proofs.Gathered.{gathers, taken-as}
 use Rattle.trace_promises.proofs.Cases.{cases}
 
 pub all : All
-all = (all-blocks, (in-order, (first-fault, (reads-back, (few-blocks, (opens-late, (whole-stays, (reads-mended, (settles, (each-block, (calls-build, (writer-builds, (reader-shows, (salvage-gives, (writer-writes, (retold, cases))))))))))))))))
+all = (all-blocks, (in-order, (first-fault, (reads-back, (few-blocks, (opens-late, (whole-stays, (reads-mended, (settles, (each-block, (calls-build, (writer-builds, (reader-shows, (salvage-gives, (writer-writes, (retold, (gathers, (taken-as, cases))))))))))))))))))

@@ -12,5 +12,6 @@ pub mod Programs
 mod HexBack
 mod LinesBack
 pub mod Retold
+pub mod Gathered
 pub mod Cases
 pub mod All

@@ -5,5 +5,6 @@ pub mod Mended
 pub mod Built
 pub mod Programs
 pub mod Retold
+pub mod Gathered
 pub mod Cases
 pub mod All

@@ -1,4 +1,4 @@
-mod LineLaws
+pub mod LineLaws
 pub mod Onward
 mod WordLaws
 mod NumberLaws
