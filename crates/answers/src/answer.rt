@@ -10,7 +10,7 @@ use reports::slots::batched_text;
 use words::{Command, Ending};
 
 // What a command asks for; octets in hex begin at a place of the line.
-#[derive(Drop)]
+#[derive(Clone, Copy)]
 pub enum Asks {
     Passed,
     Unclear,
@@ -20,7 +20,7 @@ pub enum Asks {
 }
 
 // How long the table's image is and the reply buffer, from line to line; and how much of the page is written.
-#[derive(Drop)]
+#[derive(Clone, Copy)]
 pub struct Held {
     pub size: usize,
     pub room: usize,

@@ -1,4 +1,6 @@
 // Lines from standard input, each answered on standard output.
+#![tactic(auto)]
+
 ghost use Rattle.std.specs.Prelude.{◌≤◌};
 
 use answers::answer::{Held, answer_line};
@@ -6,7 +8,7 @@ use libc::{STDIN_FILENO, STDOUT_FILENO};
 use words::lines::{counted, gather};
 
 // So much of a line is there, so many lines were before it; how long the table and the reply buffer are.
-#[derive(Drop)]
+#[derive(Clone, Copy)]
 struct Bench {
     have: usize,
     number: u64,

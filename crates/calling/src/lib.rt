@@ -1,11 +1,13 @@
 // Local calls: refused with a number, or ready to send. Nothing is written here.
+#![tactic(auto)]
+
 ghost use Rattle.std.specs.Prelude.{◌≡◌};
 ghost use Rattle.calling.specs.Seen.{FindsOpen, length_refusal, DecidesBegin, DecidesInvoke, DecidesResult, DecidesError, DecidesRelease};
 
 use table::{Change, Named};
 
 // Refused, or the entry with its change and the operation that the message names.
-#[derive(Drop)]
+#[derive(Clone, Copy)]
 pub enum Call {
     Refused(u8),
     Goes {

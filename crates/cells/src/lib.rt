@@ -1,4 +1,6 @@
 // A USSD string as text on forty cells: septets, characters, lines.
+#![tactic(auto)]
+
 mod alphabet;
 mod rows;
 mod septets;
@@ -16,7 +18,7 @@ use crate::septets::{bits_at, septets_sent};
 
 // The refusal, or 0; how many characters and lines are written.
 #[repr(C)]
-#[derive(Drop)]
+#[derive(Clone, Copy)]
 pub struct Laid {
     pub code: u8,
     pub characters: usize,
@@ -24,7 +26,7 @@ pub struct Laid {
 }
 
 // How many characters and lines a string has.
-#[derive(Drop)]
+#[derive(Clone, Copy)]
 pub struct Extent {
     pub characters: usize,
     pub lines: usize,
@@ -65,7 +67,7 @@ fn end_line(lines: &mut [u8], count: usize, row: Row, writes: bool) -> usize
 }
 
 // Where the walk is: the line that has begun, the characters and the lines before.
-#[derive(Drop)]
+#[derive(Clone, Copy)]
 pub struct Walk {
     pub row: Row,
     pub characters: usize,

@@ -3,14 +3,14 @@ ghost use Rattle.std.specs.Prelude.{◌≡◌, ◌≤◌};
 ghost use Rattle.cells.specs.Rows.{grown, line_of, left_of};
 
 // A line: its cells, and 1 if a space was dropped behind it, else 0.
-#[derive(Drop)]
+#[derive(Clone, Copy)]
 pub struct Line {
     pub cells: u8,
     pub dropped: u8,
 }
 
 // The line that has begun: its characters, and how many of them stand up to the last space, and with it.
-#[derive(Drop)]
+#[derive(Clone, Copy)]
 pub struct Row {
     pub width: u8,
     pub kept: u8,

@@ -9,7 +9,7 @@ use super::shown::Shown;
 use elements::Found;
 use places::{Id, Single};
 
-#[derive(Drop)]
+#[derive(Clone, Copy)]
 pub enum Reading {
     Empty,
     Shows(Shown),

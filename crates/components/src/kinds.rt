@@ -7,7 +7,7 @@ use super::shown::{Operation, Shown};
 use elements::Found;
 use places::{Calls, Code, Last, Rejected};
 
-#[derive(Drop)]
+#[derive(Clone, Copy)]
 pub enum Kind {
     Fault(u8),
     Is(Shown),

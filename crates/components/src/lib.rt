@@ -1,4 +1,6 @@
 // Components: what a Facility value says.
+#![tactic(auto)]
+
 pub mod facility;
 pub mod kinds;
 pub mod shown;

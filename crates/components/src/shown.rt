@@ -4,13 +4,13 @@ ghost use Rattle.components.specs.Seen.{parameter_length};
 
 use places::Id;
 
-#[derive(Drop)]
+#[derive(Clone, Copy)]
 pub enum Operation {
     Absent,
     Is(u8),
 }
 
-#[derive(Drop)]
+#[derive(Clone, Copy)]
 pub enum Shown {
     Invoke {
         id: i8,

@@ -1,4 +1,6 @@
 // What a received message is found to be: the steps in order, and nothing written.
+#![tactic(auto)]
+
 ghost use Rattle.std.specs.Prelude.{◌≡◌, false, ◌≤◌, ◌<◌, length, take, drop};
 ghost use Rattle.octets.specs.Part.{between};
 ghost use Rattle.components.specs.Facility.{facility};
@@ -22,7 +24,7 @@ use places::Id;
 use table::{Change, Slot};
 
 // A component that is shown, where its Facility value ends, and the text that it carries.
-#[derive(Drop)]
+#[derive(Clone, Copy)]
 pub enum Told {
     Nothing,
     Is {
@@ -33,7 +35,7 @@ pub enum Told {
 }
 
 // One verdict's case each, and what is needed to act on it.
-#[derive(Drop)]
+#[derive(Clone, Copy)]
 pub enum Act {
     Silent(u8),
     WithCause(u8),
@@ -44,7 +46,7 @@ pub enum Act {
 }
 
 // The case, and what is shown: nothing, where the case shows nothing.
-#[derive(Drop)]
+#[derive(Clone, Copy)]
 pub struct Decision {
     pub act: Act,
     pub told: Told,
@@ -222,7 +224,7 @@ fn release(s: &[u8], told: Told) -> Decision
 }
 
 // What steps 2 to 4 leave to do: to end so, or to weigh a Facility value, which in a RELEASE COMPLETE is only shown.
-#[derive(Drop)]
+#[derive(Clone, Copy)]
 pub enum Course {
     Ignored,
     WithCause(u8),

@@ -1,17 +1,19 @@
 // Elements: one tag octet, a length, contents. Readers get a part and can't read outside it.
+#![tactic(auto)]
+
 ghost use Rattle.std.specs.Prelude.{◌≡◌, ◌+◌, ◌≤◌, ◌<◌, length};
 ghost use Rattle.octets.specs.Splice.{splice};
 ghost use Rattle.elements.specs.Element.{row, shortest, header};
 ghost use Rattle.elements.specs.Found.{ReadsLength, ReadsElement};
 
-#[derive(Drop)]
+#[derive(Clone, Copy)]
 pub enum Length {
     Unreadable,
     Is { octets: usize, taken: usize },
 }
 
 // Of a whole element: its tag, and the places where its contents start and end. The header's length is the start.
-#[derive(Drop)]
+#[derive(Clone, Copy)]
 pub enum Found {
     Missing,
     Unreadable,

@@ -1,7 +1,9 @@
 // Step 6: a component held against the entry of its transaction.
+#![tactic(auto)]
+
 ghost use Rattle.std.specs.Prelude.{◌≡◌};
 ghost use Rattle.places.specs.Seen.{id_seen};
-ghost use Rattle.components.specs.Component.{invoke, result};
+ghost use Rattle.components.specs.Component.{invoke, result as result_read};
 ghost use Rattle.components.specs.Seen.{operation_seen};
 ghost use Rattle.sides.specs.Seen.{side_seen};
 ghost use Rattle.table.specs.Seen.{slot_seen, change_seen};
@@ -14,13 +16,13 @@ use places::Id;
 use table::{Change, Slot};
 
 // What is accepted comes with the change of its entry, and the text that was read.
-#[derive(Drop)]
+#[derive(Clone, Copy)]
 pub enum Judgement {
     Problem { tag: u8, number: u8 },
     Accepted { change: Change, text: Ussd },
 }
 
-#[derive(Drop)]
+#[derive(Clone, Copy)]
 pub enum Linked {
     Sound,
     Problem(u8),
@@ -28,7 +30,7 @@ pub enum Linked {
 
 // A linked id held against our outstanding invokes.
 fn judge_linked(own: u64, linked: Id, operation: u8) -> Linked
-    ensures* { λ r. ⌜ linked_seen r ≡ linked_problem (side_seen own) (id_seen linked) operation ⌝ }
+    ensures { linked_seen result ≡ linked_problem (side_seen own) (id_seen linked) operation }
 {
     let Id::Is(id) = linked else {
         return Linked::Sound;
@@ -47,7 +49,7 @@ fn judge_linked(own: u64, linked: Id, operation: u8) -> Linked
 }
 
 fn linked_number(linked: Linked) -> u8
-    ensures* { λ r. ⌜ r ≡ linked_number linked ⌝ }
+    ensures { result ≡ linked_number linked }
 {
     match linked {
         Linked::Sound => 0,
@@ -57,7 +59,7 @@ fn linked_number(linked: Linked) -> u8
 
 // The invoke that was taken waits behind the others; one that has no answer is not kept.
 fn kept(id: i8, operation: u8) -> Change
-    ensures* { λ r. ⌜ change_seen r ≡ kept id operation ⌝ }
+    ensures { change_seen result ≡ kept id operation }
 {
     if codes::operations::is_waited_for(operation) {
         return Change::Adds {
@@ -71,7 +73,7 @@ fn kept(id: i8, operation: u8) -> Change
 
 // An Invoke.
 pub fn judge_invoke(slot: Slot, id: i8, linked: Id, operation: u8, p: &[u8]) -> Judgement
-    ensures* { λ r. ⌜ Judges (judge_invoke (slot_seen slot) id (id_seen linked) operation p.now) (invoke id (id_seen linked) operation p.now) r ⌝ }
+    ensures { Judges (judge_invoke (slot_seen slot) id (id_seen linked) operation p.now) (invoke id (id_seen linked) operation p.now) result }
 {
     let own = slot.own;
     let peer = slot.peer;
@@ -116,7 +118,7 @@ pub fn judge_invoke(slot: Slot, id: i8, linked: Id, operation: u8, p: &[u8]) -> 
 
 // Whether an operation that is told is ours.
 fn is_ours(operation: Operation, ours: u8) -> bool
-    ensures* { λ r. ⌜ r ≡ is_ours (operation_seen operation) ours ⌝ }
+    ensures { result ≡ is_ours (operation_seen operation) ours }
 {
     match operation {
         Operation::Absent => {
@@ -130,7 +132,7 @@ fn is_ours(operation: Operation, ours: u8) -> bool
 
 // The text of a result that tells its operation.
 fn told_text(operation: Operation, text: Ussd) -> Ussd
-    ensures* { λ r. ⌜ r ≡ told_text (operation_seen operation) text ⌝ }
+    ensures { result ≡ told_text (operation_seen operation) text }
 {
     match operation {
         Operation::Absent => {
@@ -144,7 +146,7 @@ fn told_text(operation: Operation, text: Ussd) -> Ussd
 
 // A Return result.
 pub fn judge_result(slot: Slot, id: i8, operation: Operation, p: &[u8]) -> Judgement
-    ensures* { λ r. ⌜ Judges (judge_result (slot_seen slot) id (operation_seen operation) p.now) (result id (operation_seen operation) p.now) r ⌝ }
+    ensures { Judges (judge_result (slot_seen slot) id (operation_seen operation) p.now) (result_read id (operation_seen operation) p.now) result }
 {
     let own = slot.own;
     let ours = sides::operation_of(id, own);
@@ -173,7 +175,7 @@ pub fn judge_result(slot: Slot, id: i8, operation: Operation, p: &[u8]) -> Judge
 
 // A Return error.
 pub fn judge_error(slot: Slot, id: i8, code: u8) -> Judgement
-    ensures* { λ r. ⌜ JudgesError (judge_error (slot_seen slot) id code) id code r ⌝ }
+    ensures { JudgesError (judge_error (slot_seen slot) id code) id code result }
 {
     let own = slot.own;
     let asked = sides::operation_of(id, own);

@@ -7,7 +7,7 @@ ghost use Rattle.messages.specs.Seen.{ReadsSized, ReadsMandatory};
 use octets::MaybePart;
 
 // What octet 2 tells, compared whole.
-#[derive(Drop)]
+#[derive(Clone, Copy)]
 pub enum MessageType {
     ReleaseComplete,
     Facility,

@@ -5,7 +5,7 @@ ghost use Rattle.messages.specs.Seen.{ReadsItem, ReadsRequired, FindsFirst};
 
 use octets::MaybePart;
 
-#[derive(Drop)]
+#[derive(Clone, Copy)]
 pub enum Item {
     End,
     Cut,

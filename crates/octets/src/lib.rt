@@ -1,10 +1,12 @@
 // Parts of lent octets, and octets written into a lent buffer.
+#![tactic(auto)]
+
 ghost use Rattle.std.specs.Prelude.{◌≡◌, ◌+◌, ◌≤◌, min, length};
 ghost use Rattle.octets.specs.Part.{between, start_of, place_at};
 ghost use Rattle.octets.specs.Splice.{splice};
 
 // A part by its places, or none: the answer of whoever looks for one.
-#[derive(Drop)]
+#[derive(Clone, Copy)]
 pub enum MaybePart {
     Nothing,
     Between { start: usize, end: usize },

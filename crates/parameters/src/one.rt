@@ -6,7 +6,7 @@ ghost use Rattle.parameters.specs.Seen.{ReadsContents};
 use elements::Found;
 
 // The contents go from a place to the end of the part.
-#[derive(Drop)]
+#[derive(Clone, Copy)]
 pub enum Contents {
     Refused,
     From(usize),

@@ -6,7 +6,7 @@ ghost use Rattle.parameters.specs.Seen.{without_text, TellsText, TellsInvoke, Te
 use super::text::Ussd;
 
 // Whether a received parameter suits its operation, and the text that was read to tell it.
-#[derive(Drop)]
+#[derive(Clone, Copy)]
 pub struct Suited {
     pub suited: bool,
     pub text: Ussd,

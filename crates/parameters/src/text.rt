@@ -6,7 +6,7 @@ use elements::Found;
 use octets::MaybePart;
 
 // The string's places; the tail goes from its end to the end of the part.
-#[derive(Drop)]
+#[derive(Clone, Copy)]
 pub enum Ussd {
     Refused,
     Says {

@@ -1,23 +1,25 @@
 // The places of a component, each read from the front of a part; a fault leaves with its problem number.
+#![tactic(auto)]
+
 ghost use Rattle.std.specs.Prelude.{◌≡◌};
 ghost use Rattle.places.specs.Seen.{problem_of, fault_of, calls_fault, last_fault, coded_fault, rejected_fault, ReadsSingle, ReadsCalls, ReadsLast, ReadsCoded, ReadsRejected};
 
 use elements::Found;
 
 // An id that may be absent.
-#[derive(Drop)]
+#[derive(Clone, Copy)]
 pub enum Id {
     Absent,
     Is(i8),
 }
 
-#[derive(Drop)]
+#[derive(Clone, Copy)]
 pub enum Single {
     Fault(u8),
     Is { octet: u8, end: usize },
 }
 
-#[derive(Drop)]
+#[derive(Clone, Copy)]
 pub enum Calls {
     Fault(u8),
     Is {
@@ -28,19 +30,19 @@ pub enum Calls {
 }
 
 // The parameter is the last octets of the part, so many of them.
-#[derive(Drop)]
+#[derive(Clone, Copy)]
 pub enum Code {
     Fault(u8),
     Is { octet: u8, parameter: usize },
 }
 
-#[derive(Drop)]
+#[derive(Clone, Copy)]
 pub enum Rejected {
     Fault(u8),
     Is { id: Id, end: usize },
 }
 
-#[derive(Drop)]
+#[derive(Clone, Copy)]
 pub enum Last {
     Fault(u8),
     Parameter,

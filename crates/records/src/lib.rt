@@ -1,4 +1,6 @@
 // Records: each a length octet from 1 to 255 and that many octets, back to back.
+#![tactic(auto)]
+
 ghost use Rattle.std.specs.Prelude.{◌≡◌};
 ghost use Rattle.records.specs.Records.{counted};
 ghost use Rattle.records.specs.Seen.{ReadsRecord, count_seen};
@@ -6,7 +8,7 @@ ghost use Rattle.records.specs.Seen.{ReadsRecord, count_seen};
 use octets::MaybePart;
 
 // How many records there are, or that one of them is zero or cut.
-#[derive(Drop)]
+#[derive(Clone, Copy)]
 pub enum Count {
     Bad,
     Whole(usize),

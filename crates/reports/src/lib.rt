@@ -1,4 +1,6 @@
 // What is printed of a received message, of a call and of a batch, written into a lent page.
+#![tactic(auto)]
+
 mod felt;
 pub mod shown;
 pub mod slots;

@@ -1,11 +1,13 @@
 // A trace file, sound or not, on standard input; the mended file on standard output, and the list on standard error.
+#![tactic(auto)]
+
 use libc::{STDERR_FILENO, STDOUT_FILENO};
 use streams::{give, input_failed, read_block};
 use trace::salvage::{is_kept, mend_block};
 use trace_lines::listed::list_line;
 
 // Whether the block was kept, and whether all could be written.
-#[derive(Drop)]
+#[derive(Clone, Copy)]
 struct Mended {
     is_kept: bool,
     is_given: bool,

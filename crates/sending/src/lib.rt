@@ -1,4 +1,6 @@
 // Messages written at the front of a lent buffer. Their lengths are told beforehand; what stands behind stays.
+#![tactic(auto)]
+
 ghost use Rattle.std.specs.Prelude.{◌≡◌, ◌+◌, ◌≤◌, ◌<◌, length};
 ghost use Rattle.std.proofs.Math.Option.{none};
 ghost use Rattle.octets.specs.Splice.{splice};

@@ -1,4 +1,6 @@
 // What C gets to see of a component. Places are counted in the whole message; the two octets before `s` are its head.
+#![tactic(auto)]
+
 ghost use Rattle.std.specs.Prelude.{◌≡◌, List, ℕ, ◌+◌, ◌≤◌, length, take, drop};
 ghost use Rattle.std.proofs.Math.Option.{some};
 ghost use Rattle.places.specs.Seen.{id_seen};
@@ -13,7 +15,7 @@ use places::Id;
 
 // From one octet of the message up to, not including, another.
 #[repr(C)]
-#[derive(Drop)]
+#[derive(Clone, Copy)]
 pub struct Span {
     pub start: usize,
     pub end: usize,
@@ -21,7 +23,7 @@ pub struct Span {
 
 // A component; kind is its outer tag, 0 for nothing. A number that is not there is 0; a parameter is empty at its place.
 #[repr(C)]
-#[derive(Drop)]
+#[derive(Clone, Copy)]
 pub struct ComponentView {
     pub kind: u8,
     pub has_id: bool,
@@ -38,7 +40,7 @@ pub struct ComponentView {
 
 // The text of a USSD parameter.
 #[repr(C)]
-#[derive(Drop)]
+#[derive(Clone, Copy)]
 pub struct TextView {
     pub is_there: bool,
     pub scheme: u8,
@@ -48,7 +50,7 @@ pub struct TextView {
 
 // The contents of a cause element.
 #[repr(C)]
-#[derive(Drop)]
+#[derive(Clone, Copy)]
 pub struct CauseView {
     pub is_there: bool,
     pub contents: Span,

@@ -1,11 +1,13 @@
 // One side of an entry, ours or the peer's: up to four invokes that wait, in order of arrival. Its eight octets are joined in one
 // number, the first lowest.
+#![tactic(auto)]
+
 ghost use Rattle.std.specs.Prelude.{◌≡◌, ◌/◌, ◌%◌, ◌<◌, ◌≤◌, not, eqb, length};
 ghost use Rattle.sides.specs.Side.{places, among, full, operation_of, is_empty, sound_side};
 ghost use Rattle.sides.specs.Seen.{octets_seen, side_seen, listed_for, joined_at, found_in, with_last, without_id};
 
 // Where an id was looked for: how many places stand before it, and the places from it on.
-#[derive(Drop)]
+#[derive(Clone, Copy)]
 struct Found {
     place: u8,
     rest: u64,

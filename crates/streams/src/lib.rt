@@ -1,10 +1,12 @@
 // Standard input in blocks, and standard output; a program says where one of them fails.
+#![tactic(auto)]
+
 ghost use Rattle.std.specs.Prelude.{◌≤◌, length};
 
 use libc::{STDERR_FILENO, STDIN_FILENO};
 
 // How many octets were read, and whether a read failed: that is not the end of the input.
-#[derive(Drop)]
+#[derive(Clone, Copy)]
 pub struct Got {
     pub have: usize,
     pub is_failed: bool,

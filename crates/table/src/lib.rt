@@ -1,4 +1,6 @@
 // The transaction table in 238 lent octets: fourteen entries, each read by value and changed in one way at a time.
+#![tactic(auto)]
+
 ghost use Rattle.std.specs.Prelude.{◌≡◌, not, ◌+◌, ◌*◌, ◌<◌, ◌≤◌, length, get_or};
 ghost use Rattle.octets.specs.Octets.{Octets};
 ghost use Rattle.octets.specs.Part.{between};
@@ -11,7 +13,7 @@ ghost use Rattle.table.specs.Seen.{slot_seen, change_seen, FindsClosed, NamesEnt
 ghost use Rattle.table.specs.Raw.{join_of, slot_of, slot_octets, with_side, side_in, slot_changed, ChangeFits, IsOctets, ReadsEntry};
 
 // An entry by value: its two sides as `sides` has them.
-#[derive(Drop)]
+#[derive(Clone, Copy)]
 pub struct Slot {
     pub open: bool,
     pub own: u64,
@@ -19,14 +21,14 @@ pub struct Slot {
 }
 
 // An entry's number, or none.
-#[derive(Drop)]
+#[derive(Clone, Copy)]
 pub enum Named {
     Nothing,
     At(u8),
 }
 
 // What one step does to an entry; a side is ours or the peer's.
-#[derive(Drop)]
+#[derive(Clone, Copy)]
 pub enum Change {
     Opens,
     Closes,

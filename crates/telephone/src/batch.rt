@@ -13,7 +13,7 @@ use records::Count;
 
 // 0 or the number of the refusal; how many slots are written.
 #[repr(C)]
-#[derive(Drop)]
+#[derive(Clone, Copy)]
 pub struct Batched {
     pub code: u8,
     pub slots: usize,

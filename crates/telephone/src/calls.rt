@@ -1,13 +1,13 @@
 // The five local calls. A refused one writes nothing and changes no transaction.
 ghost use Rattle.std.specs.Prelude.{◌≡◌};
-ghost use Rattle.telephone.specs.Calls.{begin, invoke_within, result, error, release};
+ghost use Rattle.telephone.specs.Calls.{begin, invoke_within, result as result_call, error, release};
 ghost use Rattle.telephone.specs.FromC.{called_of};
 
 use calling::Call;
 
 // 0 or the number of the refusal; the value that a begin takes; how many octets of the message are written.
 #[repr(C)]
-#[derive(Drop)]
+#[derive(Clone, Copy)]
 pub struct Called {
     pub code: u8,
     pub value: u8,
@@ -22,9 +22,9 @@ pub extern "C" fn smr_begin(
     parameter: &[u8],
     buffer: &mut [u8],
 ) -> Called
-    ensures* returned { λ r. ⌜ r ≡ called_of (begin table.old buffer.old operation id parameter.now) ⌝ }
-    ensures* buffer { λ _. ⌜ buffer.new ≡ (begin table.old buffer.old operation id parameter.now).buffer ⌝ }
-    ensures* table { λ _. ⌜ table.new ≡ (begin table.old buffer.old operation id parameter.now).table ⌝ }
+    ensures returned { result ≡ called_of (begin table.old buffer.old operation id parameter.now) }
+    ensures buffer { buffer.new ≡ (begin table.old buffer.old operation id parameter.now).buffer }
+    ensures table { table.new ≡ (begin table.old buffer.old operation id parameter.now).table }
 {
     match calling::decide_begin(table, buffer.len(), operation, id, parameter) {
         Call::Refused(code) => {
@@ -61,9 +61,9 @@ pub extern "C" fn smr_invoke(
     parameter: &[u8],
     buffer: &mut [u8],
 ) -> Called
-    ensures* returned { λ r. ⌜ r ≡ called_of (invoke_within table.old buffer.old flag value operation id parameter.now) ⌝ }
-    ensures* buffer { λ _. ⌜ buffer.new ≡ (invoke_within table.old buffer.old flag value operation id parameter.now).buffer ⌝ }
-    ensures* table { λ _. ⌜ table.new ≡ (invoke_within table.old buffer.old flag value operation id parameter.now).table ⌝ }
+    ensures returned { result ≡ called_of (invoke_within table.old buffer.old flag value operation id parameter.now) }
+    ensures buffer { buffer.new ≡ (invoke_within table.old buffer.old flag value operation id parameter.now).buffer }
+    ensures table { table.new ≡ (invoke_within table.old buffer.old flag value operation id parameter.now).table }
 {
     match calling::decide_invoke(table, buffer.len(), flag, value, operation, id, parameter) {
         Call::Refused(code) => {
@@ -99,9 +99,9 @@ pub extern "C" fn smr_result(
     parameter: &[u8],
     buffer: &mut [u8],
 ) -> Called
-    ensures* returned { λ r. ⌜ r ≡ called_of (result table.old buffer.old flag value id parameter.now) ⌝ }
-    ensures* buffer { λ _. ⌜ buffer.new ≡ (result table.old buffer.old flag value id parameter.now).buffer ⌝ }
-    ensures* table { λ _. ⌜ table.new ≡ (result table.old buffer.old flag value id parameter.now).table ⌝ }
+    ensures returned { result ≡ called_of (result_call table.old buffer.old flag value id parameter.now) }
+    ensures buffer { buffer.new ≡ (result_call table.old buffer.old flag value id parameter.now).buffer }
+    ensures table { table.new ≡ (result_call table.old buffer.old flag value id parameter.now).table }
 {
     match calling::decide_result(table, buffer.len(), flag, value, id, parameter) {
         Call::Refused(code) => {
@@ -138,9 +138,9 @@ pub extern "C" fn smr_error(
     parameter: &[u8],
     buffer: &mut [u8],
 ) -> Called
-    ensures* returned { λ r. ⌜ r ≡ called_of (error table.old buffer.old flag value id code parameter.now) ⌝ }
-    ensures* buffer { λ _. ⌜ buffer.new ≡ (error table.old buffer.old flag value id code parameter.now).buffer ⌝ }
-    ensures* table { λ _. ⌜ table.new ≡ (error table.old buffer.old flag value id code parameter.now).table ⌝ }
+    ensures returned { result ≡ called_of (error table.old buffer.old flag value id code parameter.now) }
+    ensures buffer { buffer.new ≡ (error table.old buffer.old flag value id code parameter.now).buffer }
+    ensures table { table.new ≡ (error table.old buffer.old flag value id code parameter.now).table }
 {
     match calling::decide_error(table, buffer.len(), flag, value, id, code, parameter) {
         Call::Refused(number) => {
@@ -169,9 +169,9 @@ pub extern "C" fn smr_error(
 
 #[unsafe(no_mangle)]
 pub extern "C" fn smr_release(table: &mut [u8], flag: u8, value: u8, buffer: &mut [u8]) -> Called
-    ensures* returned { λ r. ⌜ r ≡ called_of (release table.old buffer.old flag value) ⌝ }
-    ensures* buffer { λ _. ⌜ buffer.new ≡ (release table.old buffer.old flag value).buffer ⌝ }
-    ensures* table { λ _. ⌜ table.new ≡ (release table.old buffer.old flag value).table ⌝ }
+    ensures returned { result ≡ called_of (release table.old buffer.old flag value) }
+    ensures buffer { buffer.new ≡ (release table.old buffer.old flag value).buffer }
+    ensures table { table.new ≡ (release table.old buffer.old flag value).table }
 {
     match calling::decide_release(table, buffer.len(), flag, value) {
         Call::Refused(code) => {

@@ -16,7 +16,7 @@ use table::Change;
 
 // The verdict, or the refusal 27 or 28; how many octets of the reply are written; and what is shown.
 #[repr(C)]
-#[derive(Drop)]
+#[derive(Clone, Copy)]
 pub struct Received {
     pub code: u8,
     pub written: usize,
@@ -61,7 +61,7 @@ fn close(table: &mut [u8], k: u8)
 }
 
 // What is done: the verdict or the refusal, how many octets are written, and where the cause stands.
-#[derive(Drop)]
+#[derive(Clone, Copy)]
 pub struct Acted {
     pub code: u8,
     pub written: usize,

@@ -1,4 +1,6 @@
 // A trace file: blocks of records, judged, read, written and mended. No input or output here.
+#![tactic(auto)]
+
 mod blocks;
 pub mod places;
 pub mod reading;
@@ -13,14 +15,14 @@ use crate::reading::is_good;
 
 // The refusal, or 0; whether the block has what was wanted.
 #[repr(C)]
-#[derive(Drop)]
+#[derive(Clone, Copy)]
 pub struct Traced {
     pub code: u8,
     pub added: bool,
 }
 
 // What becomes of a block that is salvaged.
-#[derive(Drop)]
+#[derive(Clone, Copy)]
 pub enum Fate {
     Kept,
     Renumbered { number: u32 },

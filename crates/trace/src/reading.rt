@@ -7,7 +7,7 @@ use octets::MaybePart;
 use records::read_record;
 
 // The record at the front: its direction, and where its message ends; that begins at octet 2.
-#[derive(Drop)]
+#[derive(Clone, Copy)]
 pub enum Found {
     Bad,
     Whole { direction: u8, end: usize },

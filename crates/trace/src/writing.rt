@@ -6,7 +6,7 @@ use crate::blocks::begin_block;
 use crate::smr_trace_add;
 
 // The refusal, or 0; the number of the block that is held; whether the one before it was handed over.
-#[derive(Drop)]
+#[derive(Clone, Copy)]
 pub struct Wrote {
     pub code: u8,
     pub number: u32,

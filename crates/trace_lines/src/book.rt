@@ -8,7 +8,7 @@ use crate::told::{Pen, follow, is_ending, kind_of, refuse};
 use trace::writing::write_record;
 
 // Whether the block that is held has a record, and its number; whether one was handed over, and the line that is refused.
-#[derive(Drop)]
+#[derive(Clone, Copy)]
 pub struct Book {
     pub is_open: bool,
     pub number: u32,
@@ -60,7 +60,7 @@ pub fn finish(
 }
 
 // The record that is begun behind a line, and the book.
-#[derive(Drop)]
+#[derive(Clone, Copy)]
 pub struct Turn {
     pub pen: Pen,
     pub book: Book,

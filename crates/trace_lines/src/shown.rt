@@ -12,7 +12,7 @@ use trace::places::{fault_at, record_part};
 use trace::reading::{Found, read_traced};
 
 // How much of the page is written, and whether the block is refused.
-#[derive(Drop)]
+#[derive(Clone, Copy)]
 pub struct Shown {
     pub written: usize,
     pub is_refused: bool,

@@ -8,7 +8,7 @@ use words::hex::read_hex;
 use words::text::{is_blank, is_same, word_at};
 
 // What a line is. A first line has its octets from a place on.
-#[derive(Drop)]
+#[derive(Clone, Copy)]
 pub enum Kind {
     Passed,
     Onward,
@@ -17,7 +17,7 @@ pub enum Kind {
 }
 
 // The record that is begun: so many octets of it stand in a buffer, and it begins on this line. Or the line that is refused.
-#[derive(Drop)]
+#[derive(Clone, Copy)]
 pub struct Pen {
     pub is_begun: bool,
     pub direction: u8,

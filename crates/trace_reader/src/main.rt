@@ -1,4 +1,6 @@
 // A trace file on standard input, its records as lines on standard output.
+#![tactic(auto)]
+
 use libc::STDOUT_FILENO;
 use streams::{give, input_failed, read_block};
 use trace_lines::shown::block_lines;

@@ -1,4 +1,6 @@
 // Records as lines on standard input, the trace file on standard output. A bad record ends it.
+#![tactic(auto)]
+
 ghost use Rattle.std.specs.Prelude.{◌≤◌, length, ◌≡◌};
 ghost use Rattle.trace_lines.specs.Desk.{Ready};
 
@@ -10,7 +12,7 @@ use trace_lines::told::Pen;
 use words::lines::{counted, gather};
 
 // So much of a line is there, so many lines were before it; whether the output failed, and the writer behind them.
-#[derive(Drop)]
+#[derive(Clone, Copy)]
 struct Desk {
     have: usize,
     number: u64,

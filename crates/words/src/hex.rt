@@ -6,7 +6,7 @@ use crate::Ending;
 use crate::text::is_blank;
 
 // How many octets were read, and how they end.
-#[derive(Drop)]
+#[derive(Clone, Copy)]
 pub struct Row {
     pub count: usize,
     pub ends: Ending,

@@ -1,4 +1,6 @@
 // A line of the bench: its words, its numbers, its octets, and the command that it is.
+#![tactic(auto)]
+
 pub mod commands;
 pub mod hex;
 pub mod lines;
@@ -6,40 +8,40 @@ pub mod numbers;
 pub mod text;
 
 // From one octet of a line up to, not including, another.
-#[derive(Drop)]
+#[derive(Clone, Copy)]
 pub struct Word {
     pub start: usize,
     pub end: usize,
 }
 
-#[derive(Drop)]
+#[derive(Clone, Copy)]
 pub enum Number {
     Nothing,
     Is(usize),
 }
 
 // A number of 0 to 255, and the place behind it.
-#[derive(Drop)]
+#[derive(Clone, Copy)]
 pub enum OctetAt {
     NoOctet,
     OctetIs { number: u8, next: usize },
 }
 
-#[derive(Drop)]
+#[derive(Clone, Copy)]
 pub enum IdAt {
     NoId,
     IdIs { id: i8, next: usize },
 }
 
 // How a row of octets in hex ends: at the end of the line, at what is no hex, or where no room is left.
-#[derive(Drop)]
+#[derive(Clone, Copy)]
 pub enum Ending {
     Whole,
     Wrong,
     Long,
 }
 
-#[derive(Drop)]
+#[derive(Clone, Copy)]
 pub enum Verb {
     Receive,
     Begin,
@@ -54,7 +56,7 @@ pub enum Verb {
 }
 
 // What a line asks for. Octets in hex begin `at` a place of the line and go up to its end.
-#[derive(Drop)]
+#[derive(Clone, Copy)]
 pub enum Command {
     Nothing,
     Unknown,

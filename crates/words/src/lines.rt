@@ -3,7 +3,7 @@ ghost use Rattle.std.specs.Prelude.{◌≡◌, ◌+◌, ◌≤◌, min, length, 
 ghost use Rattle.words.specs.Lines.{line_end, piece, with_piece, gathered};
 
 // Where the next line begins, how long this one is by now, and whether it is whole.
-#[derive(Drop)]
+#[derive(Clone, Copy)]
 pub struct Gathered {
     pub next: usize,
     pub have: usize,

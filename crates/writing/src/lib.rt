@@ -1,4 +1,6 @@
 // Writing a component at a place of a lent buffer. Its length is told beforehand, so that nothing is written in vain.
+#![tactic(auto)]
+
 ghost use Rattle.std.specs.Prelude.{◌≡◌, ◌++◌, ◌+◌, ◌≤◌, ◌<◌, length};
 ghost use Rattle.std.proofs.Math.Option.{none};
 ghost use Rattle.octets.specs.Splice.{splice};
