@@ -22,7 +22,7 @@ use Rattle.places.specs.Seen.{last}
 use Rattle.places.proofs.Left.{nothing_left, something-left, left-none, left-some, last-is, last_end}
 use Rattle.components.specs.Component.{Component, invoke, result, error, reject, parameter_of, invoke_tag, reject_tag, invoke_of, result_of, error_of, reject_of}
 use mathlib.Core.Logic.{⊎_elim}
-use types.Run.{OneOf}
+use borrow.Enum.Refused.{Among, opened}
 use denote.Enum.Declared.{tag_of}
 use Rattle.components.specs.contracts.facility.Reading.{the_type}
 use Rattle.components.specs.Facility.{parameter_in, Finding, empty, shows, general, left_over, faulty_reject, after_tag, component, inside, facility, parameter_start}
@@ -189,9 +189,9 @@ module _ (s : List ℕ) (h : length s ≡ 0 → ⊥) where
       facility-inside r g z = rw (something-left s h, f, ← q, left-none s e g, to_end a e s (omega arith)) z
 
 -- what is not shown has no parameter
-pub not-shown : (r : Reading) (s : List ℕ) → OneOf (0 ∷ 2 ∷ 3 ∷ 4 ∷ []) (tag_of the_type r) → [] ≡ parameter_in (reading_seen s r)
+pub not-shown : (r : Reading) (s : List ℕ) → Among (0 ∷ 2 ∷ 3 ∷ 4 ∷ []) (tag_of the_type r) → [] ≡ parameter_in (reading_seen s r)
 not-shown Reading.Empty s k = refl
-not-shown (Reading.Shows r) s k = absurd (⊎_elim (λ z. omega arith) (⊎_elim (λ z. omega arith) (⊎_elim (λ z. omega arith) (λ z. omega arith))) k)
+not-shown (Reading.Shows r) s k = absurd (⊎_elim (λ z. omega arith) (⊎_elim (λ z. omega arith) (⊎_elim (λ z. omega arith) (λ z. omega arith))) (opened k))
 not-shown (Reading.General problem id) s k = refl
 not-shown Reading.LeftOver s k = refl
 not-shown Reading.FaultyReject s k = refl

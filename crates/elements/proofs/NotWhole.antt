@@ -4,7 +4,7 @@ use mathlib.Core.Path.{◌≡◌, sym}
 use mathlib.Core.List.{List, [], ◌∷◌}
 use mathlib.Core.Logic.{⊎_elim}
 use native.Mathlib.Omega.{arith}
-use types.Run.{OneOf}
+use borrow.Enum.Refused.{Among, opened}
 use denote.Enum.Declared.{tag_of}
 use Rattle.octets.specs.Reader.{fault}
 use Rattle.elements.specs.Element.{missing, unreadable, element}
@@ -13,7 +13,7 @@ use Rattle.elements.specs.declared.Found.{Found}
 use Rattle.elements.specs.declared.Found.TheVariants.{Missing, Whole}
 use Rattle.elements.specs.contracts.Found.{the_type}
 
-pub not-whole : (r : Found) (s : List ℕ) → OneOf (0 ∷ 1 ∷ []) (tag_of the_type r) → seen s r ≡ element s → (n : ℕ) × (element s ≡ fault n)
+pub not-whole : (r : Found) (s : List ℕ) → Among (0 ∷ 1 ∷ []) (tag_of the_type r) → seen s r ≡ element s → (n : ℕ) × (element s ≡ fault n)
 not-whole Missing s k e = (missing, sym e)
 not-whole Found.Unreadable s k e = (unreadable, sym e)
-not-whole (Whole t a b) s k e = absurd (⊎_elim (λ z. omega arith) (λ z. omega arith) k)
+not-whole (Whole t a b) s k e = absurd (⊎_elim (λ z. omega arith) (λ z. omega arith) (opened k))

@@ -4,7 +4,7 @@ use mathlib.Core.Path.{◌≡◌, refl, ap, ◌∙◌}
 use mathlib.Core.List.{List, [], ◌∷◌}
 use mathlib.Core.Logic.{⊎_elim}
 use native.Mathlib.Omega.{arith}
-use types.Run.{OneOf}
+use borrow.Enum.Refused.{Among, opened}
 use denote.Enum.Declared.{tag_of}
 use lib.ListN.{length, take, drop, length-take, length-drop}
 use lib.Seq.{drop-drop}
@@ -20,10 +20,10 @@ use mathlib.Core.Bool.{true, false}
 use Rattle.elements.specs.Element.{element}
 
 -- where no whole element stands, the fault has the number that the code hands on
-pub problem-is : (r : Found) (s : List ℕ) → OneOf (0 ∷ 1 ∷ []) (tag_of the_type r) → seen s r ≡ element s → fault (problem_of r) ≡ element s
+pub problem-is : (r : Found) (s : List ℕ) → Among (0 ∷ 1 ∷ []) (tag_of the_type r) → seen s r ≡ element s → fault (problem_of r) ≡ element s
 problem-is Missing s k e = e
 problem-is Found.Unreadable s k e = e
-problem-is (Whole t a b) s k e = absurd (⊎_elim (λ z. omega arith) (λ z. omega arith) k)
+problem-is (Whole t a b) s k e = absurd (⊎_elim (λ z. omega arith) (λ z. omega arith) (opened k))
 
 pub nothing_left : (s : List ℕ) → length s ≡ 0 → is_empty s ≡ true
 nothing_left [] e = refl

@@ -1,0 +1,16 @@
+use borrow.Author.Rules.{rules}
+use native.Mathlib.Omega.{arith}
+use Prim.Native.Nat.{◌≤◌, ◌-◌}
+use lib.ListN.{length}
+use Rattle.words.proofs.Onward.{onward}
+use Rattle.bench.proofs.serve.Goals as goal
+
+pub loop-at-smaller-then-more : goal.loop-at-smaller-then-more
+loop-at-smaller-then-more c =
+    let further = onward c.args.input.now c.loop-at.at c.loop-at.state.have c.gather-more.result c.gather-more.ensures.gathered (omega arith) in
+    omega (arith, further)
+
+pub loop-at-smaller : goal.loop-at-smaller
+loop-at-smaller c =
+    let further = onward c.args.input.now c.loop-at.at c.loop-at.state.have c.gather-more.result c.gather-more.ensures.gathered (omega arith) in
+    omega (arith, further)

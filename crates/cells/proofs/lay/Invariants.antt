@@ -1,0 +1,16 @@
+use borrow.Author.Rules.{rules}
+use mathlib.Core.Path.{◌≡◌, refl, sym, ◌∙◌}
+use Prim.Native.Nat.{◌-◌, ◌%◌}
+use native.Mathlib.Omega.{arith}
+use native.Mathlib.Nat.{mod-one}
+use Rattle.cells.specs.Rows.{carried_to}
+use Rattle.cells.proofs.LayLaws.{Walked, begins, ended-bound, written-bound, held-there, room-there, turned, all-written, all-counted, last-counted, last_written, last-room}
+use Rattle.cells.proofs.lay.Given as goal
+
+abbrev pub invariant-loop-at : goal.invariant-loop-at
+invariant-loop-at l =
+    Walked l.string l.initial.text l.initial.lines l.writes l.count l.text l.lines l.walk.row l.at l.escaped l.walk.characters l.walk.ended × (l.carried ≡ carried_to l.string l.at)
+
+abbrev pub decreases-loop-at : goal.decreases-loop-at
+decreases-loop-at l =
+    l.count - l.at

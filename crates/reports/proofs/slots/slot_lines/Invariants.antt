@@ -1,0 +1,16 @@
+use borrow.Author.Rules.{rules}
+use Prim.Native.Nat.{◌+◌, ◌*◌, ◌-◌, ◌≤◌}
+use mathlib.Core.Path.{◌≡◌, refl, ◌∙◌}
+use native.Mathlib.Omega.{arith}
+use lib.ListN.{length, drop}
+use Rattle.printing.specs.Page.{WroteWithin}
+use Rattle.printing.proofs.JoinLaws.{nothing, join}
+use Rattle.reports.specs.Slots.{slot_text, slot_lines}
+use Rattle.reports.proofs.SlotLaws.{one_more_lem, all-written}
+use Rattle.reports.proofs.slots.slot_lines.Given as goal
+
+abbrev pub invariant-loop-k : goal.invariant-loop-k
+invariant-loop-k l = (l.k ≤ l.slots) × ((length l.page ≡ length l.initial.page) × WroteWithin (1328 * l.k) l.initial.page l.at (slot_lines l.k l.output) l.page l.place)
+
+abbrev pub decreases-loop-k : goal.decreases-loop-k
+decreases-loop-k l = l.slots - l.k

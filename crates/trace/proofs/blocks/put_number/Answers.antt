@@ -1,0 +1,10 @@
+use Rattle.trace.proofs.BlockLaws.{number_put}
+use Rattle.trace.proofs.NumberLaws.{four-written}
+use Rattle.trace.specs.Blocks.{sealed}
+use Rattle.octets.specs.Splice.{splice}
+use Rattle.std.proofs.Common.{take, ap, ◌∙◌, arith, rules}
+use Rattle.trace.proofs.blocks.put_number.Goals as goal
+
+pub returns : goal.returns
+returns c =
+    c.seal.ensures ∙ ap (λ t. sealed (take 510 t)) (c.put.ensures ∙ ap (splice c.args.block.now 0) (four-written c.args.number (omega arith))) ∙ number_put c.args.block.now c.args.number

@@ -1,0 +1,12 @@
+use Rattle.trace.proofs.RecordLaws.{sound-step, sound-bad, sound-last}
+use Rattle.trace.specs.Seen.{is_sound}
+use Rattle.trace.specs.Records.{records_in}
+use Rattle.octets.proofs.PartLaws.{rest_part_lem}
+use Rattle.std.proofs.Common.{◌≡◌, ◌+◌, ◌-◌, ◌≤◌, length, drop, sym, refl, ap, ◌∙◌, arith, length-drop, drop-drop, rules}
+use Rattle.trace.proofs.reading.are_records.Given as goal
+
+abbrev pub invariant-loop-i : goal.invariant-loop-i
+invariant-loop-i l = (l.i ≤ length l.s) × (is_sound (records_in (drop l.i l.s)) ≡ is_sound (records_in l.s))
+
+abbrev pub decreases-loop-i : goal.decreases-loop-i
+decreases-loop-i l = length l.s - l.i

@@ -1,0 +1,29 @@
+use Rattle.octets.proofs.PartLaws.{length-between}
+use Rattle.trace_lines.proofs.ShownLaws.{lines_at, at_length, at-step, at_none, not-bad, part-behind}
+use Rattle.trace_lines.specs.Shown.{record_line}
+use Rattle.trace.proofs.RecordLaws.{sound-step}
+use Rattle.trace.specs.Seen.{is_sound}
+use Rattle.trace.specs.Records.{records_in}
+use Rattle.printing.proofs.JoinLaws.{piece, ended}
+use Rattle.octets.proofs.PartLaws.{rest_part_lem}
+use Rattle.octets.specs.Splice.{splice}
+use lib.Seq.{drop-drop}
+use lib.ListN.{length, drop, length-drop}
+use Prim.Native.Nat.{◌+◌, ◌*◌, ◌≤◌, ◌-◌}
+use mathlib.Core.Bool.{true}
+use mathlib.Core.Path.{◌≡◌, refl, sym, ◌∙◌, ap}
+use native.Mathlib.Omega.{arith}
+use borrow.Author.Rules.{rules}
+use Rattle.trace_lines.proofs.shown.record_lines.Given as goal
+
+abbrev pub invariant-loop-i : goal.invariant-loop-i
+invariant-loop-i l =
+    (l.i ≤ length l.s)
+    × ((l.at ≤ 26 * l.i)
+    × ((length l.page ≡ length l.initial.page)
+    × ((is_sound (records_in (drop l.i l.s)) ≡ true)
+    × ((splice l.page l.at (lines_at (drop l.i l.s)) ≡ splice l.initial.page 0 (lines_at l.s))
+    × (l.at + length (lines_at (drop l.i l.s)) ≡ length (lines_at l.s))))))
+
+abbrev pub decreases-loop-i : goal.decreases-loop-i
+decreases-loop-i l = length l.s - l.i

@@ -1,0 +1,72 @@
+use borrow.Author.Rules.{rules}
+use native.Mathlib.Omega.{arith}
+use mathlib.Core.Path.{◌≡◌, refl, sym, ◌∙◌}
+use mathlib.Core.List.{List, [], ◌∷◌}
+use Prim.Native.Nat.{ℕ}
+use lib.ListN.{length}
+use Rattle.elements.specs.Element.{written}
+use Rattle.writing.proofs.WriteLaws.{pieces, pieces-length, as_written, fits-as, answer-bare, answer-full, inner-length}
+use Rattle.codes.proofs.IdLaws.{handed}
+use Rattle.writing.proofs.write_answer.Goals as goal
+
+pub write_enclosed-requires : goal.write_enclosed-requires
+write_enclosed-requires c =
+    let a = c.args in (omega arith, fits-as a.at (length a.buf.now) (answer-bare a.id _ a.operation a.p.now (handed c.ranges.id c.octet_of.ensures) c.if-p-eq0.true) c.requires.1)
+
+pub returns-then-p-eq0 : goal.returns-then-p-eq0
+returns-then-p-eq0 c =
+    let a = c.args in as_written a.buf.now a.at (answer-bare a.id _ a.operation a.p.now (handed c.ranges.id c.octet_of.ensures) c.if-p-eq0.true) c.write_enclosed.ensures
+
+pub overflow_add-enclosed_length : goal.overflow_add-enclosed_length
+overflow_add-enclosed_length c =
+    omega (arith, c.enclosed_length.ensures, (inner-length c.args.operation c.args.p.now c.requires.0).1)
+
+pub write_header-next-requires : goal.write_header-next-requires
+write_header-next-requires c =
+    let a = c.args in
+    let i = inner-length a.operation a.p.now c.requires.0 in
+    let f = fits-as a.at (length a.buf.now) (answer-full a.id c.octet_of.result a.operation a.p.now (handed c.ranges.id c.octet_of.ensures) c.if-p-eq0.false) c.requires.1 in
+    let l = pieces-length 0xA2 (0x02 ∷ 0x01 ∷ c.octet_of.result ∷ []) (written 0x30 (0x02 ∷ 0x01 ∷ a.operation ∷ a.p.now)) in
+    let e : c.enclosed_length.result ≡ length (written 0x30 (0x02 ∷ 0x01 ∷ a.operation ∷ a.p.now)) = c.enclosed_length.ensures ∙ sym i.0 in
+    rw e (omega arith, omega arith)
+
+pub put-requires : goal.put-requires
+put-requires c =
+    let a = c.args in
+    let inner : List ℕ = written 0x30 (0x02 ∷ 0x01 ∷ a.operation ∷ a.p.now) in
+    let j = inner-length a.operation a.p.now c.requires.0 in
+    let f = fits-as a.at (length a.buf.now) (answer-full a.id c.octet_of.result a.operation a.p.now (handed c.ranges.id c.octet_of.ensures) c.if-p-eq0.false) c.requires.1 in
+    let l = pieces-length 0xA2 (0x02 ∷ 0x01 ∷ c.octet_of.result ∷ []) inner in
+    let e : c.enclosed_length.result ≡ length inner = c.enclosed_length.ensures ∙ sym j.0 in
+    omega (arith, c.write_header-next.auto.0, rw e at c.write_header-next.ensures.next)
+
+pub overflow_add-next : goal.overflow_add-next
+overflow_add-next c =
+    let a = c.args in
+    let inner : List ℕ = written 0x30 (0x02 ∷ 0x01 ∷ a.operation ∷ a.p.now) in
+    let j = inner-length a.operation a.p.now c.requires.0 in
+    let f = fits-as a.at (length a.buf.now) (answer-full a.id c.octet_of.result a.operation a.p.now (handed c.ranges.id c.octet_of.ensures) c.if-p-eq0.false) c.requires.1 in
+    let l = pieces-length 0xA2 (0x02 ∷ 0x01 ∷ c.octet_of.result ∷ []) inner in
+    let e : c.enclosed_length.result ≡ length inner = c.enclosed_length.ensures ∙ sym j.0 in
+    omega (arith, rw e at c.write_header-next.ensures.next)
+
+pub write_enclosed-requires-2 : goal.write_enclosed-requires-2
+write_enclosed-requires-2 c =
+    let a = c.args in
+    let inner : List ℕ = written 0x30 (0x02 ∷ 0x01 ∷ a.operation ∷ a.p.now) in
+    let j = inner-length a.operation a.p.now c.requires.0 in
+    let f = fits-as a.at (length a.buf.now) (answer-full a.id c.octet_of.result a.operation a.p.now (handed c.ranges.id c.octet_of.ensures) c.if-p-eq0.false) c.requires.1 in
+    let l = pieces-length 0xA2 (0x02 ∷ 0x01 ∷ c.octet_of.result ∷ []) inner in
+    let e : c.enclosed_length.result ≡ length inner = c.enclosed_length.ensures ∙ sym j.0 in
+    (omega arith, omega (arith, c.write_header-next.auto.0, c.put.auto.0, rw e at c.write_header-next.ensures.next))
+
+pub returns : goal.returns
+returns c =
+    let a = c.args in
+    let inner : List ℕ = written 0x30 (0x02 ∷ 0x01 ∷ a.operation ∷ a.p.now) in
+    let j = inner-length a.operation a.p.now c.requires.0 in
+    let f = fits-as a.at (length a.buf.now) (answer-full a.id c.octet_of.result a.operation a.p.now (handed c.ranges.id c.octet_of.ensures) c.if-p-eq0.false) c.requires.1 in
+    let l = pieces-length 0xA2 (0x02 ∷ 0x01 ∷ c.octet_of.result ∷ []) inner in
+    let e : c.enclosed_length.result ≡ length inner = c.enclosed_length.ensures ∙ sym j.0 in
+    as_written a.buf.now a.at (answer-full a.id c.octet_of.result a.operation a.p.now (handed c.ranges.id c.octet_of.ensures) c.if-p-eq0.false)
+    (record { writes = pieces a.buf.now _ _ _ a.at 0xA2 (0x02 ∷ 0x01 ∷ c.octet_of.result ∷ []) inner _ _ f (rw e at c.write_header-next.ensures.writes) (rw e at c.write_header-next.ensures.next) c.put.ensures c.write_enclosed-2.ensures.writes refl; next = omega (arith, rw e at c.write_header-next.ensures.next, c.write_enclosed-2.ensures.next) })
