@@ -2,26 +2,27 @@ use borrow.Author.Rules.{rules}
 use native.Mathlib.Omega.{arith}
 use mathlib.Core.Path.{◌≡◌, ap}
 use mathlib.Core.Bool.{false}
-use mathlib.Core.Logic.{⊎_elim}
 use lib.ListN.{length-drop, get_or}
 use Rattle.octets.proofs.PartLaws.{rest_part_lem}
 use Rattle.elements.specs.Element.{refused_tag}
 use Rattle.elements.proofs.Paths.{no-tag, bad-tag, bad-length, cut, whole}
 use Rattle.elements.proofs.Tags.{not-refused}
 use Rattle.elements.proofs.read_element.Goals as goal
+use Rattle.elements.proofs.read_element.Goals.{Joined-tag-lt128, in-1-to-30, in-1-to-30-2, in-1-to-30-3, in-1-to-30-4, in-1-to-30-5, in-1-to-30-6, in-1-to-30-7, in-1-to-30-8}
 
-good : (c : goal.Joined-tag-lt128) → refused_tag (get_or c.args.s.now 0 0) ≡ false
+good : (c : Joined-tag-lt128) → refused_tag (get_or c.args.s.now 0 0) ≡ false
 good c =
     let tag = get_or c.args.s.now 0 0 in
-    ⊎_elim (λ w. not-refused 0 tag (omega arith) w.2.taken w.1.left)
-    (⊎_elim (λ w. not-refused 1 tag w.3.left w.4.taken (omega (arith, w.3.left)))
-    (⊎_elim (λ w. not-refused 2 tag w.5.left w.6.taken (omega (arith, w.5.left)))
-    (⊎_elim (λ w. not-refused 3 tag w.7.left w.8.taken (omega (arith, w.7.left)))
-    (⊎_elim (λ w. not-refused 4 tag w.0.left w.1.taken (omega (arith, w.0.left)))
-    (⊎_elim (λ w. not-refused 5 tag w.2.left w.3.taken (omega (arith, w.2.left)))
-    (⊎_elim (λ w. not-refused 6 tag w.4.left w.5.taken (omega (arith, w.4.left)))
-    (λ w. not-refused 7 tag w.6.left w.7.taken (omega (arith, w.6.left)))))))))
-    c.if-tag-lt128.branch
+    elim c.if-tag-lt128.branch [
+      | in-1-to-30 w ↦ not-refused 0 tag (omega arith) (omega arith) (omega arith)
+      | in-1-to-30-2 w ↦ not-refused 1 tag (omega arith) (omega arith) (omega arith)
+      | in-1-to-30-3 w ↦ not-refused 2 tag (omega arith) (omega arith) (omega arith)
+      | in-1-to-30-4 w ↦ not-refused 3 tag (omega arith) (omega arith) (omega arith)
+      | in-1-to-30-5 w ↦ not-refused 4 tag (omega arith) (omega arith) (omega arith)
+      | in-1-to-30-6 w ↦ not-refused 5 tag (omega arith) (omega arith) (omega arith)
+      | in-1-to-30-7 w ↦ not-refused 6 tag (omega arith) (omega arith) (omega arith)
+      | in-1-to-30-8 w ↦ not-refused 7 tag (omega arith) (omega arith) (omega arith)
+    ]
 
 pub returns-then-s-lt1 : goal.returns-then-s-lt1
 returns-then-s-lt1 c = (no-tag c.args.s.now c.if-s-lt1.true, tt)
@@ -55,7 +56,7 @@ returns-in_default-9 c = let e : get_or c.args.s.now 0 0 ≡ 0xFF = omega (arith
 
 pub returns-in_default-read_length : goal.returns-in_default-read_length
 returns-in_default-read_length c =
-    (bad-length c.args.s.now (omega arith) (good c) (rw (c.in_default-read_length.is, rest_part_lem 1 c.args.s.now) at c.read_length.ensures.0), tt)
+    (bad-length c.args.s.now (omega arith) (good (goal.at.returns-in_default-read_length c).Joined-tag-lt128) (rw (c.in_default-read_length.is, rest_part_lem 1 c.args.s.now) at c.read_length.ensures.0), tt)
 
 pub overflow_add-start : goal.overflow_add-start
 overflow_add-start c =
@@ -70,7 +71,7 @@ overflow_sub-s c =
 pub returns-then-s-start : goal.returns-then-s-start
 returns-then-s-start c =
     let w = simp length-drop at (rw (c.in-Is.is, rest_part_lem 1 c.args.s.now) at c.read_length.ensures.1) in
-    (cut c.args.s.now (omega arith) c.in-Is.octets c.in-Is.taken (good c) (rw (c.in-Is.is, rest_part_lem 1 c.args.s.now) at c.read_length.ensures.0) (omega arith) c.if-s-start.true, tt)
+    (cut c.args.s.now (omega arith) c.in-Is.octets c.in-Is.taken (good (goal.at.returns-then-s-start c).Joined-tag-lt128) (rw (c.in-Is.is, rest_part_lem 1 c.args.s.now) at c.read_length.ensures.0) (omega arith) c.if-s-start.true, tt)
 
 pub overflow_add-result : goal.overflow_add-result
 overflow_add-result c =
@@ -80,4 +81,4 @@ overflow_add-result c =
 pub returns : goal.returns
 returns c =
     let w = simp length-drop at (rw (c.in-Is.is, rest_part_lem 1 c.args.s.now) at c.read_length.ensures.1) in
-    (whole c.args.s.now (omega arith) c.in-Is.octets c.in-Is.taken (good c) (rw (c.in-Is.is, rest_part_lem 1 c.args.s.now) at c.read_length.ensures.0) (omega arith) c.if-s-start.false, omega arith)
+    (whole c.args.s.now (omega arith) c.in-Is.octets c.in-Is.taken (good (goal.at.returns c).Joined-tag-lt128) (rw (c.in-Is.is, rest_part_lem 1 c.args.s.now) at c.read_length.ensures.0) (omega arith) c.if-s-start.false, omega arith)
