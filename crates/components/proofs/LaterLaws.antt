@@ -129,14 +129,18 @@ result-later id x operation p q thirty c i s e h k =
 -- a later edition of a component: the same kind, ids and operation, and the longer parameter
 pub later-component : {s t : List ℕ} (p q : List ℕ) (c : Component) → LaterFacility p q s t → IsParameter q → facility s ≡ shows c → parameter_of c ≡ p
     → facility t ≡ shows (with_parameter q c)
-later-component p q c (in_invoke {s = s} before e) k f h =
-    facility-written invoke_tag (before ++ q) refl refl
-    ∙ inside_is invoke_tag (before ++ q) (with_parameter q c)
-    (invoke-later before p q c (shown-was invoke_tag (before ++ p) c (sym (facility-encloses invoke_tag (before ++ p) s refl refl e) ∙ f)) h k)
-later-component p q c (in_result {s = s} id x operation thirty i e a) k f h =
-    facility-written result_tag (id ++ written 0x30 (operation ++ q)) refl refl
-    ∙ inside_is result_tag (id ++ written 0x30 (operation ++ q)) (with_parameter q c)
-    (result-later id x operation p q thirty c i e (shown-was result_tag (id ++ thirty) c (sym (facility-encloses result_tag (id ++ thirty) s refl refl a) ∙ f)) h k)
+later-component p q c e k f h = go p q c e k f h
+  where
+    go : (p q : List ℕ) {s t : List ℕ} (c : Component) → LaterFacility p q s t → IsParameter q → facility s ≡ shows c → parameter_of c ≡ p
+        → facility t ≡ shows (with_parameter q c)
+    go p q c (in_invoke {s = s} before e) k f h =
+        facility-written invoke_tag (before ++ q) refl refl
+        ∙ inside_is invoke_tag (before ++ q) (with_parameter q c)
+        (invoke-later before p q c (shown-was invoke_tag (before ++ p) c (sym (facility-encloses invoke_tag (before ++ p) s refl refl e) ∙ f)) h k)
+    go p q c (in_result {s = s} id x operation thirty i e a) k f h =
+        facility-written result_tag (id ++ written 0x30 (operation ++ q)) refl refl
+        ∙ inside_is result_tag (id ++ written 0x30 (operation ++ q)) (with_parameter q c)
+        (result-later id x operation p q thirty c i e (shown-was result_tag (id ++ thirty) c (sym (facility-encloses result_tag (id ++ thirty) s refl refl a) ∙ f)) h k)
 
 -- and its text is the same: the tail is the old one followed by x
 pub later-text : (p x q : List ℕ) (g : Taken Text) → LaterParameter p x q → ussd p ≡ sound g → row x ≡ true → ussd q ≡ took g.value (g.rest ++ x)

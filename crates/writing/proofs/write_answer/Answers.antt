@@ -15,7 +15,9 @@ write_enclosed-requires c =
 
 pub returns-then-p-eq0 : goal.returns-then-p-eq0
 returns-then-p-eq0 c =
-    let a = c.args in as_written a.buf.now a.at (answer-bare a.id _ a.operation a.p.now (handed c.ranges.id c.octet_of.ensures) c.if-p-eq0.true) c.write_enclosed.ensures
+    let a = c.args in
+    let r = as_written a.buf.now a.at (answer-bare a.id _ a.operation a.p.now (handed c.ranges.id c.octet_of.ensures) c.if-p-eq0.true) (c.write_enclosed.ensures.writes, c.write_enclosed.ensures.next) in
+    record { writes = r.0; next = r.1 }
 
 pub overflow_add-enclosed_length : goal.overflow_add-enclosed_length
 overflow_add-enclosed_length c =
@@ -38,7 +40,7 @@ put-requires c =
     let f = fits-as a.at (length a.buf.now) (answer-full a.id c.octet_of.result a.operation a.p.now (handed c.ranges.id c.octet_of.ensures) c.if-p-eq0.false) c.requires.1 in
     let l = pieces-length 0xA2 (0x02 ∷ 0x01 ∷ c.octet_of.result ∷ []) inner in
     let e : c.enclosed_length.result ≡ length inner = c.enclosed_length.ensures ∙ sym j.0 in
-    omega (arith, c.write_header-next.auto.0, rw e at c.write_header-next.ensures.next)
+    omega (arith, c.write_header-next.auto.buf, rw e at c.write_header-next.ensures.next)
 
 pub overflow_add-next : goal.overflow_add-next
 overflow_add-next c =
@@ -58,7 +60,7 @@ write_enclosed-requires-2 c =
     let f = fits-as a.at (length a.buf.now) (answer-full a.id c.octet_of.result a.operation a.p.now (handed c.ranges.id c.octet_of.ensures) c.if-p-eq0.false) c.requires.1 in
     let l = pieces-length 0xA2 (0x02 ∷ 0x01 ∷ c.octet_of.result ∷ []) inner in
     let e : c.enclosed_length.result ≡ length inner = c.enclosed_length.ensures ∙ sym j.0 in
-    (omega arith, omega (arith, c.write_header-next.auto.0, c.put.auto.0, rw e at c.write_header-next.ensures.next))
+    (omega arith, omega (arith, c.write_header-next.auto.buf, c.put.auto.buf, rw e at c.write_header-next.ensures.next))
 
 pub returns : goal.returns
 returns c =
@@ -68,5 +70,7 @@ returns c =
     let f = fits-as a.at (length a.buf.now) (answer-full a.id c.octet_of.result a.operation a.p.now (handed c.ranges.id c.octet_of.ensures) c.if-p-eq0.false) c.requires.1 in
     let l = pieces-length 0xA2 (0x02 ∷ 0x01 ∷ c.octet_of.result ∷ []) inner in
     let e : c.enclosed_length.result ≡ length inner = c.enclosed_length.ensures ∙ sym j.0 in
+    let r =
     as_written a.buf.now a.at (answer-full a.id c.octet_of.result a.operation a.p.now (handed c.ranges.id c.octet_of.ensures) c.if-p-eq0.false)
-    (record { writes = pieces a.buf.now _ _ _ a.at 0xA2 (0x02 ∷ 0x01 ∷ c.octet_of.result ∷ []) inner _ _ f (rw e at c.write_header-next.ensures.writes) (rw e at c.write_header-next.ensures.next) c.put.ensures c.write_enclosed-2.ensures.writes refl; next = omega (arith, rw e at c.write_header-next.ensures.next, c.write_enclosed-2.ensures.next) })
+    (pieces a.buf.now _ _ _ a.at 0xA2 (0x02 ∷ 0x01 ∷ c.octet_of.result ∷ []) inner _ _ f (rw e at c.write_header-next.ensures.writes) (rw e at c.write_header-next.ensures.next) c.put.ensures c.write_enclosed-2.ensures.writes refl, omega (arith, rw e at c.write_header-next.ensures.next, c.write_enclosed-2.ensures.next)) in
+    record { writes = r.0; next = r.1 }

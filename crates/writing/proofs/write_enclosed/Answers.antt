@@ -14,7 +14,7 @@ pub put-requires : goal.put-requires
 put-requires c =
     let a = c.args in
     let l = pieces-length a.tag a.head.now a.tail.now in
-    omega (arith, c.write_header-next.auto.0, c.write_header-next.ensures.next)
+    omega (arith, c.write_header-next.auto.buf, c.write_header-next.ensures.next)
 
 pub overflow_add-next : goal.overflow_add-next
 overflow_add-next c =
@@ -26,7 +26,7 @@ pub put-requires-2 : goal.put-requires-2
 put-requires-2 c =
     let a = c.args in
     let l = pieces-length a.tag a.head.now a.tail.now in
-    omega (arith, c.write_header-next.auto.0, c.put.auto.0, c.write_header-next.ensures.next)
+    omega (arith, c.write_header-next.auto.buf, c.put.auto.buf, c.write_header-next.ensures.next)
 
 pub overflow_add-result : goal.overflow_add-result
 overflow_add-result c =
