@@ -18,11 +18,11 @@ returns-then-not-named c =
     let a = c.args in
     let e : named a.flag a.value ≡ some c.in-At.k = sym (rw c.in-At.is at c.entry_named.ensures) in
     let seen : slot_seen c.read_entry-named.result ≡ entry_at a.table.now c.in-At.k = c.read_entry-named.ensures.1 in
-    (not-open a.table.now a.flag a.value c.in-At.k c.read_entry-named.result e seen (c.if-not-named.true), tt)
+    (not-open a.table.now a.flag a.value c.in-At.k c.read_entry-named.result e seen (not-true _ c.if-not-named.true), tt)
 
 pub returns : goal.returns
 returns c =
     let a = c.args in
     let e : named a.flag a.value ≡ some c.in-At.k = sym (rw c.in-At.is at c.entry_named.ensures) in
     let seen : slot_seen c.read_entry-named.result ≡ entry_at a.table.now c.in-At.k = c.read_entry-named.ensures.1 in
-    is_open a.table.now a.flag a.value c.in-At.k c.read_entry-named.result e seen (c.if-not-named.false)
+    is_open a.table.now a.flag a.value c.in-At.k c.read_entry-named.result e seen (not-false _ c.if-not-named.false)

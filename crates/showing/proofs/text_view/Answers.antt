@@ -1,5 +1,3 @@
-use borrow.Author.Rules.{rules}
-use Prim.Native.Nat.{◌≤◌}
 use mathlib.Core.Path.{◌∙◌}
 use native.Mathlib.Omega.{arith}
 use lib.ListN.{take, drop}
@@ -7,29 +5,37 @@ use Rattle.components.specs.Seen.{shown_seen}
 use Rattle.showing.proofs.Paths.{parameter-long, text-untold, text-taken}
 use Rattle.showing.proofs.text_view.Goals as goal
 
-within : (c : tie.After-parameter-length) → (c.before.before.text.given.0.1.0 ≤ c.before.before.text.given.0.1.1.0) × (c.before.before.text.given.0.1.1.0 ≤ c.parameter-length.result)
-within c =
-    let a = c.before.before.before.before.before.args in
-    let w = c.before.before.before.before.before.requires in
-    let l = parameter-long a.shown a.s.now c.parameter-length.result a.end c.parameter-length.ensures w.0.0 w.0.1 in
-    let v = rw c.before.before.text.given.1 at w.1.1 in
-    (v.0, omega arith)
-
 pub returns-in_default : goal.returns-in_default
 returns-in_default c =
-    let a = c.args in c.no_text.ensures ∙ text-untold (shown_seen (take a.end a.s.now) a.shown) (drop a.end a.s.now) _ (rw c.in_default.is at c.requires.1.0)
+    let a = c.args in
+    let v = rw c.in_default.is at c.requires.1 in
+    c.no_text.ensures ∙ text-untold (shown_seen (take a.end a.s.now) a.shown) (drop a.end a.s.now) _ v.0
 
+-- The string lies within the parameter.
 pub overflow_add-result-2 : goal.overflow_add-result-2
-overflow_add-result-2 c = let v = within c in omega arith
+overflow_add-result-2 c =
+    let a = c.args in
+    let l = parameter-long a.shown a.s.now c.parameter_length.result a.end c.parameter_length.ensures c.requires.0.0 c.requires.0.1 in
+    let v = rw c.in-Says.is at c.requires.1 in
+    omega arith
 
 pub overflow_add-result-4 : goal.overflow_add-result-4
-overflow_add-result-4 c = let v = within c in omega arith
+overflow_add-result-4 c =
+    let a = c.args in
+    let l = parameter-long a.shown a.s.now c.parameter_length.result a.end c.parameter_length.ensures c.requires.0.0 c.requires.0.1 in
+    let v = rw c.in-Says.is at c.requires.1 in
+    omega arith
 
 pub overflow_add-result-6 : goal.overflow_add-result-6
-overflow_add-result-6 c = let v = within c in omega arith
+overflow_add-result-6 c =
+    let a = c.args in
+    let l = parameter-long a.shown a.s.now c.parameter_length.result a.end c.parameter_length.ensures c.requires.0.0 c.requires.0.1 in
+    let v = rw c.in-Says.is at c.requires.1 in
+    omega arith
 
 pub returns : goal.returns
 returns c =
     let a = c.args in
-    let v = within c in
-    text-taken a.shown a.s.now c.parameter_length.result a.end c.parameter_length.ensures c.requires.0.0 c.requires.0.1 c.in-Says.scheme c.in-Says.from c.in-Says.to v.0 v.1 (rw c.in-Says.is at c.requires.1.0)
+    let l = parameter-long a.shown a.s.now c.parameter_length.result a.end c.parameter_length.ensures c.requires.0.0 c.requires.0.1 in
+    let v = rw c.in-Says.is at c.requires.1 in
+    text-taken a.shown a.s.now c.parameter_length.result a.end c.parameter_length.ensures c.requires.0.0 c.requires.0.1 c.in-Says.scheme c.in-Says.from c.in-Says.to v.1.0 (omega arith) v.0
