@@ -24,15 +24,15 @@ speed:
 
 # make check CRATE=elements: prove one crate and those below it.
 check:
-	rt check $(CRATE)
+	machine/in $(CRATE) rt check
 
-# make dev CRATE=elements: the edit loop, in seconds; no verdict.
+# make dev CRATE=elements: the edit loop, with the goals at holes; no verdict.
 dev:
-	rt dev $(CRATE)
+	machine/in $(CRATE) rt check --allow-holes
 
 # make edits CRATE=elements: its wrong programs alone, each refused by its own function.
 edits:
 	edits/one $(CRATE)
 
 format:
-	rt fmt
+	for crate in crates/*; do machine/in $${crate##*/} rt fmt || exit 1; done
