@@ -14,12 +14,12 @@ loop-v-init c = (omega arith, refl)
 pub returns-then-not-read_entry : goal.returns-then-not-read_entry
 returns-then-not-read_entry c =
     let o = ap (λ (e : Entry). e.is_open) c.read_entry.ensures.1 in
-    at-closed c.args.table.now c.loop-v.v _ o c.loop-v-test.true (c.if-not-read_entry.true) ∙ c.loop-v.invariant.1
+    at-closed c.args.table.now c.loop-v.v _ o c.loop-v-test.true (not-true _ c.if-not-read_entry.true) ∙ c.loop-v.invariant.1
 
 pub loop-v-preserved : goal.loop-v-preserved
 loop-v-preserved c =
     let o = ap (λ (e : Entry). e.is_open) c.read_entry.ensures.1 in
-    (omega arith, past_open c.args.table.now c.loop-v.v _ o c.loop-v-test.true (c.if-not-read_entry.false) ∙ c.loop-v.invariant.1)
+    (omega arith, past_open c.args.table.now c.loop-v.v _ o c.loop-v-test.true (not-false _ c.if-not-read_entry.false) ∙ c.loop-v.invariant.1)
 
 pub returns : goal.returns
 unfolding lowest_from

@@ -23,4 +23,5 @@ overflow_add-result-3 c = record { fits = omega (arith, c.read_place-fourth.ensu
 
 pub returns : goal.returns
 returns c =
-    side-read c.args.table.now c.args.at c.read_place-first.result c.read_place-second.result c.read_place-third.result c.read_place-fourth.result c.requires c.read_place-first.ensures.value c.read_place-second.ensures.value c.read_place-third.ensures.value c.read_place-fourth.ensures.value c.read_place-first.ensures.at_bound c.read_place-second.ensures.at_bound c.read_place-third.ensures.at_bound c.read_place-fourth.ensures.at_bound
+    let r = side-read c.args.table.now c.args.at c.read_place-first.result c.read_place-second.result c.read_place-third.result c.read_place-fourth.result c.requires c.read_place-first.ensures.value c.read_place-second.ensures.value c.read_place-third.ensures.value c.read_place-fourth.ensures.value c.read_place-first.ensures.at_bound c.read_place-second.ensures.at_bound c.read_place-third.ensures.at_bound c.read_place-fourth.ensures.at_bound in
+    record { value = r.0; octets = r.1 }
