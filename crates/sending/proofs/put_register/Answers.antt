@@ -13,26 +13,27 @@ pub write_invoke-next-requires : goal.write_invoke-next-requires
 write_invoke-next-requires c =
     let a = c.args in
     let n = invoke-octets a.id a.operation a.p.now in
-    rw (held-is c.ranges.id) (omega arith, omega (arith, c.put.auto.0))
+    rw (held-is c.ranges.id) (omega arith, omega (arith, c.put.auto.buf))
 
 pub put-requires-2 : goal.put-requires-2
 put-requires-2 c =
     let a = c.args in
     let n = invoke-octets a.id a.operation a.p.now in
-    let w = rw (held-is c.ranges.id) at c.write_invoke-next.ensures in
-    omega (arith, w.1, c.write_invoke-next.auto.0, c.put.auto.0)
+    let ended = rw (held-is c.ranges.id) at c.write_invoke-next.ensures.next in
+    omega (arith, ended, c.write_invoke-next.auto.buf, c.put.auto.buf)
 
 pub overflow_add-result : goal.overflow_add-result
 overflow_add-result c =
     let a = c.args in
     let n = invoke-octets a.id a.operation a.p.now in
-    let w = rw (held-is c.ranges.id) at c.write_invoke-next.ensures in
-    omega (arith, w.1)
+    let ended = rw (held-is c.ranges.id) at c.write_invoke-next.ensures.next in
+    omega (arith, ended)
 
 pub returns : goal.returns
 returns c =
     let a = c.args in
     let n = invoke-octets a.id a.operation a.p.now in
-    let w = rw (held-is c.ranges.id) at c.write_invoke-next.ensures in
+    let wrote = rw (held-is c.ranges.id) at c.write_invoke-next.ensures.writes in
+    let ended = rw (held-is c.ranges.id) at c.write_invoke-next.ensures.next in
     let l = register-length a.first (component_octets (invoke a.id none a.operation a.p.now)) in
-    record { writes = register-joined a.buf.now _ _ a.first _ (component_octets (invoke a.id none a.operation a.p.now)) (c.coded_length.ensures ∙ sym n) _ _ (omega arith) c.put.ensures w.0 w.1 c.put-2.ensures; next = omega (arith, w.1) }
+    record { writes = register-joined a.buf.now _ _ a.first _ (component_octets (invoke a.id none a.operation a.p.now)) (c.coded_length.ensures ∙ sym n) _ _ (omega arith) c.put.ensures wrote ended c.put-2.ensures; next = omega (arith, ended) }

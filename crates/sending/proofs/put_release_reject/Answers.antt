@@ -12,7 +12,7 @@ pub write_reject-requires : goal.write_reject-requires
 write_reject-requires c =
     let a = c.args in
     let n = reject-octets (id_seen a.id) a.tag a.problem in
-    omega (arith, c.put.auto.0, reject-bound (id_seen a.id))
+    omega (arith, c.put.auto.buf, reject-bound (id_seen a.id))
 
 pub returns : goal.returns
 returns c =
