@@ -1,6 +1,4 @@
-use borrow.Author.Rules.{rules}
 use native.Mathlib.Omega.{arith}
-use borrow.Author.Tests.{not-true, not-false}
 use Rattle.codes.proofs.IdLaws.{held-is}
 use Rattle.printing.specs.Numbers.{id_text}
 use Rattle.printing.specs.Lines.{id_line}

@@ -1,6 +1,4 @@
-use borrow.Author.Rules.{rules}
 use native.Mathlib.Omega.{arith}
-use borrow.Author.Tests.{not-true, not-false}
 use Rattle.printing.specs.Numbers.{decimal}
 use Rattle.printing.specs.Lines.{number_line}
 use Rattle.printing.proofs.JoinLaws.{nothing, spaced}

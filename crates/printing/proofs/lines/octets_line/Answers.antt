@@ -1,6 +1,4 @@
-use borrow.Author.Rules.{rules}
 use native.Mathlib.Omega.{arith}
-use borrow.Author.Tests.{not-true, not-false}
 use lib.ListN.{length}
 use Rattle.printing.specs.Lines.{folded, octets_line}
 use Rattle.printing.proofs.JoinLaws.{nothing, closed}

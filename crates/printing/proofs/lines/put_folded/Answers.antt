@@ -1,9 +1,6 @@
-use borrow.Author.Rules.{rules}
-use mathlib.Core.Path.{◌≡◌, refl, sym, ◌∙◌}
-use Prim.Native.Nat.{◌≤◌, ◌+◌, ◌*◌, ◌-◌}
+use mathlib.Core.Path.{refl, sym, ◌∙◌}
 use native.Mathlib.Omega.{arith}
-use lib.ListN.{length, drop}
-use Rattle.octets.specs.Splice.{splice}
+use lib.ListN.{drop}
 use Rattle.printing.specs.Lines.{folded}
 use Rattle.printing.proofs.FoldLaws.{folded-length, first, none_left}
 use Rattle.printing.proofs.JoinLaws.{piece, ended}
@@ -17,14 +14,10 @@ loop-i-preserved c =
     let a = c.args in
     let b = folded-length a.column a.octets.now in
     let f = first c.loop-i.width c.loop-i.i a.octets.now c.loop-i-test.true in
-    let t = piece c.loop-i.page c.loop-i.place (folded c.loop-i.width (drop c.loop-i.i a.octets.now)) _ _ c.put_next-place.new.0 c.put_next-place.result f (omega arith) (c.put_next-place.ensures.0, c.put_next-place.ensures.1.0) in
-    (omega arith, (omega arith, (c.put_next-place.auto.0 ∙ c.loop-i.invariant.1.1.0, rw c.next_column-width.ensures (t.0 ∙ c.loop-i.invariant.1.1.1.0, t.1 ∙ c.loop-i.invariant.1.1.1.1))))
+    let t = piece c.loop-i.page c.loop-i.place (folded c.loop-i.width (drop c.loop-i.i a.octets.now)) _ _ c.put_next-place.new.page c.put_next-place.result f (omega arith) (c.put_next-place.ensures.0, c.put_next-place.ensures.1.0) in
+    (omega arith, (omega arith, (c.put_next-place.auto.page ∙ c.loop-i.invariant.1.1.0, rw c.next_column-width.ensures (t.0 ∙ c.loop-i.invariant.1.1.1.0, t.1 ∙ c.loop-i.invariant.1.1.1.1))))
 
 pub returns : goal.returns
 returns c =
     let e = ended c.loop-i.page c.loop-i.place (folded c.loop-i.width (drop c.loop-i.i c.args.octets.now)) (none_left c.loop-i.width c.loop-i.i c.args.octets.now c.loop-i-test.false) in
     (sym e.0 ∙ c.loop-i.invariant.1.1.1.0, (omega arith, omega arith))
-
--- NEED? same-length
--- same_length : tie.Need-same-length invariant-loop decreases-loop
--- same_length c = c.before.loop.invariant.1.1.0

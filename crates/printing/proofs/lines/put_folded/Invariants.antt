@@ -1,12 +1,8 @@
-use borrow.Author.Rules.{rules}
-use mathlib.Core.Path.{◌≡◌, refl, sym, ◌∙◌}
+use mathlib.Core.Path.{◌≡◌}
 use Prim.Native.Nat.{◌≤◌, ◌+◌, ◌*◌, ◌-◌}
-use native.Mathlib.Omega.{arith}
 use lib.ListN.{length, drop}
 use Rattle.octets.specs.Splice.{splice}
 use Rattle.printing.specs.Lines.{folded}
-use Rattle.printing.proofs.FoldLaws.{folded-length, first, none_left}
-use Rattle.printing.proofs.JoinLaws.{piece, ended}
 use Rattle.printing.proofs.lines.put_folded.Given as goal
 
 abbrev pub invariant-loop-i : goal.invariant-loop-i

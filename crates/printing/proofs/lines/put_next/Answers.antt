@@ -1,4 +1,3 @@
-use borrow.Author.Rules.{rules}
 use Prim.Native.Nat.{◌≤◌, ◌<◌}
 use mathlib.Core.List.{[], ◌∷◌}
 use native.Mathlib.Omega.{arith}
@@ -11,7 +10,7 @@ pub returns-then-column-gt37 : goal.returns-then-column-gt37
 unfolding pair
 returns-then-column-gt37 c =
     let a = c.args in
-    let j = join a.page.now a.at (10 ∷ 32 ∷ []) (pair a.octet) _ _ _ _ (omega arith) c.put_words-place.ensures c.put_pair.ensures in
+    let j = join a.page.now a.at (10 ∷ 32 ∷ []) (pair a.octet) _ _ _ _ (omega arith) c.put_words-place.ensures (c.put_pair.ensures.writes, c.put_pair.ensures.next) in
     let h : 37 < a.column = omega arith in
     rw (lt-ltb _ _ h) (j.0, (j.1, omega arith))
 
@@ -19,6 +18,6 @@ pub returns : goal.returns
 unfolding pair
 returns c =
     let a = c.args in
-    let j = join a.page.now a.at (32 ∷ []) (pair a.octet) _ _ _ _ (omega arith) c.put_words-place-2.ensures c.put_pair-2.ensures in
+    let j = join a.page.now a.at (32 ∷ []) (pair a.octet) _ _ _ _ (omega arith) c.put_words-place-2.ensures (c.put_pair-2.ensures.writes, c.put_pair-2.ensures.next) in
     let h : a.column ≤ 37 = omega arith in
     rw (le-ltb _ _ h) (j.0, (j.1, omega arith))

@@ -1,4 +1,3 @@
-use borrow.Author.Rules.{rules}
 use Rattle.octets.proofs.PartLaws.{clamped}
 use Rattle.printing.proofs.text.characters_between.Goals as goal
 

@@ -1,12 +1,8 @@
-use borrow.Author.Rules.{rules}
-use mathlib.Core.Path.{◌≡◌, refl, sym, ◌∙◌}
+use mathlib.Core.Path.{◌≡◌}
 use Prim.Native.Nat.{◌≤◌, ◌+◌, ◌*◌, ◌-◌}
-use native.Mathlib.Omega.{arith}
 use lib.ListN.{length, drop}
 use Rattle.octets.specs.Splice.{splice}
 use Rattle.printing.specs.Utf8.{cell_text}
-use Rattle.printing.proofs.CellLaws.{cells-length, first_cell, no_cell}
-use Rattle.printing.proofs.JoinLaws.{piece, ended}
 use Rattle.printing.proofs.text.put_cells.Given as goal
 
 abbrev pub invariant-loop-i : goal.invariant-loop-i

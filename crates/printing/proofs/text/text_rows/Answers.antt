@@ -1,9 +1,7 @@
-use borrow.Author.Rules.{rules}
-use mathlib.Core.Path.{◌≡◌, refl, sym, ap, ◌∙◌}
-use Prim.Native.Nat.{◌≤◌, ◌+◌, ◌*◌, ◌-◌}
+use mathlib.Core.Path.{refl, sym, ap, ◌∙◌}
+use Prim.Native.Nat.{◌+◌}
 use native.Mathlib.Omega.{arith}
 use lib.ListN.{length, drop, get_or}
-use Rattle.octets.specs.Splice.{splice}
 use Rattle.printing.specs.Utf8.{text_rows}
 use Rattle.printing.proofs.CellLaws.{rows-length, first-row, no_row, between-length}
 use Rattle.printing.proofs.JoinLaws.{piece, ended}
@@ -13,10 +11,10 @@ pub loop-i-init : goal.loop-i-init
 loop-i-init c = (omega arith, (omega arith, (omega arith, (refl, (refl, refl)))))
 
 pub overflow_add-to : goal.overflow_add-to
-overflow_add-to c = omega (arith, c.shared_slice_known-in-loop-i-1.given c.loop-i.i)
+overflow_add-to c = omega (arith, c.type_inv.rows c.loop-i.i)
 
 pub overflow_add-next-in-loop-i : goal.overflow_add-next-in-loop-i
-overflow_add-next-in-loop-i c = omega (arith, c.shared_slice_known-in-loop-i-2-1.given c.loop-i.i, c.shared_slice_known-in-loop-i-2-1.given (c.loop-i.i + 1))
+overflow_add-next-in-loop-i c = omega (arith, c.type_inv.rows c.loop-i.i, c.type_inv.rows (c.loop-i.i + 1))
 
 pub put_row-place-requires : goal.put_row-place-requires
 put_row-place-requires c =
@@ -29,23 +27,11 @@ loop-i-preserved c =
     let n = ap length c.characters_between.ensures ∙ between-length c.loop-i.from (c.loop-i.from + get_or a.rows.now c.loop-i.i 0) a.text.now in
     let b = rows-length a.text.now a.rows.now in
     let f = first-row c.loop-i.from c.loop-i.i a.text.now a.rows.now c.loop-i-test.true in
-    let t = piece c.loop-i.page c.loop-i.place (text_rows (drop c.loop-i.from a.text.now) (drop c.loop-i.i a.rows.now)) _ _ c.put_row-place.new.0 c.put_row-place.result f (omega arith) (rw c.characters_between.ensures at c.put_row-place.ensures.0, rw c.characters_between.ensures at c.put_row-place.ensures.1.0) in
-    (omega arith, (omega arith, (omega arith, (c.put_row-place.auto.0 ∙ c.loop-i.invariant.1.1.1.0, rw c.least-from.ensures (t.0 ∙ c.loop-i.invariant.1.1.1.1.0, t.1 ∙ c.loop-i.invariant.1.1.1.1.1)))))
+    let t = piece c.loop-i.page c.loop-i.place (text_rows (drop c.loop-i.from a.text.now) (drop c.loop-i.i a.rows.now)) _ _ c.put_row-place.new.page c.put_row-place.result f (omega arith) (rw c.characters_between.ensures at c.put_row-place.ensures.0, rw c.characters_between.ensures at c.put_row-place.ensures.1.0) in
+    (omega arith, (omega arith, (omega arith, (c.put_row-place.auto.page ∙ c.loop-i.invariant.1.1.1.0, rw c.least-from.ensures (t.0 ∙ c.loop-i.invariant.1.1.1.1.0, t.1 ∙ c.loop-i.invariant.1.1.1.1.1)))))
 
 pub returns : goal.returns
 returns c =
     let a = c.args in
     let e = ended c.loop-i.page c.loop-i.place (text_rows (drop c.loop-i.from a.text.now) (drop c.loop-i.i a.rows.now)) (no_row c.loop-i.i (drop c.loop-i.from a.text.now) a.rows.now c.loop-i-test.false) in
     (sym e.0 ∙ c.loop-i.invariant.1.1.1.1.0, (omega arith, omega arith))
-
--- NEED? overflow-cast-to
--- cast-to : tie.Need-overflow-cast-to invariant-loop decreases-loop
--- cast-to c = omega (arith, c.shared-slice-known3.given c.before.before.loop.i)
-
--- NEED? overflow-cast-next
--- cast-next : tie.Need-overflow-cast-next invariant-loop decreases-loop
--- cast-next c = omega (arith, c.shared-slice-known4.given (c.before.before.before.loop.i + 1))
-
--- NEED? same-length
--- same_length : tie.Need-same-length invariant-loop decreases-loop
--- same_length c = c.before.loop.invariant.1.1.1.0

@@ -1,12 +1,8 @@
-use borrow.Author.Rules.{rules}
-use mathlib.Core.Path.{◌≡◌, refl, sym, ap, ◌∙◌}
+use mathlib.Core.Path.{◌≡◌}
 use Prim.Native.Nat.{◌≤◌, ◌+◌, ◌*◌, ◌-◌}
-use native.Mathlib.Omega.{arith}
-use lib.ListN.{length, drop, get_or}
+use lib.ListN.{length, drop}
 use Rattle.octets.specs.Splice.{splice}
 use Rattle.printing.specs.Utf8.{text_rows}
-use Rattle.printing.proofs.CellLaws.{rows-length, first-row, no_row, between-length}
-use Rattle.printing.proofs.JoinLaws.{piece, ended}
 use Rattle.printing.proofs.text.text_rows.Given as goal
 
 abbrev pub invariant-loop-i : goal.invariant-loop-i
