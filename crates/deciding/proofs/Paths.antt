@@ -56,10 +56,10 @@ result-carries i j (some o) p q = refl
 
 module _ (v : Judgement) (i j : ℤ) (s : List ℕ) (end m n : ℕ) (k : m ≡ n) (h : n ≤ end) (l : end ≤ length s) where
   pub invoke-text : (linked : Option ℤ) (o : ℕ) → JudgementText (invoke j linked o (between (end - m) end s)) v → JudgementText (invoke i linked o (last n (take end s))) v
-  invoke-text linked o t = same_text _ _ v refl (rw k (sym (last_taken s end n h l))) t
+  invoke-text linked o t = same_text (invoke j linked o (between (end - m) end s)) (invoke i linked o (last n (take end s))) v refl (rw k (sym (last_taken s end n h l))) t
 
   pub result-text : (o : Option ℕ) → JudgementText (result j o (between (end - m) end s)) v → JudgementText (result i o (last n (take end s))) v
-  result-text o t = same_text _ _ v (result-carries i j o (last n (take end s)) (between (end - m) end s)) (rw k (sym (last_taken s end n h l))) t
+  result-text o t = same_text (result j o (between (end - m) end s)) (result i o (last n (take end s))) v (result-carries i j o (last n (take end s)) (between (end - m) end s)) (rw k (sym (last_taken s end n h l))) t
 
 pub error-text : (v : Judgement) (i j : ℤ) (code : ℕ) (p : List ℕ) → JudgementText (error j code p) v → JudgementText (error i code p) v
 error-text v i j code p t = same_text (error j code p) (error i code p) v refl refl t

@@ -10,19 +10,19 @@ use Rattle.deciding.proofs.course_of.Goals as goal
 
 pub returns-then-not-slot : goal.returns-then-not-slot
 returns-then-not-slot c =
-    let a = c.args in (closed-release (slot_seen a.slot) a.flag a.kind a.s.now (c.if-not-slot.true) (is-type a.kind ReleaseComplete (rw c.in-ReleaseComplete.is at c.type_of.ensures)), refl)
+    let a = c.args in (closed-release (slot_seen a.slot) a.flag a.kind a.s.now (not-true _ c.if-not-slot.true) (is-type a.kind ReleaseComplete (rw c.in-ReleaseComplete.is at c.type_of.ensures)), refl)
 
 pub returns-in-ReleaseComplete : goal.returns-in-ReleaseComplete
 returns-in-ReleaseComplete c =
-    let a = c.args in rw (← open-release (slot_seen a.slot) a.flag a.kind a.s.now (c.if-not-slot.false) (is-type a.kind ReleaseComplete (rw c.in-ReleaseComplete.is at c.type_of.ensures))) (c.course_released.ensures (slot_seen a.slot))
+    let a = c.args in rw (← open-release (slot_seen a.slot) a.flag a.kind a.s.now (not-false _ c.if-not-slot.false) (is-type a.kind ReleaseComplete (rw c.in-ReleaseComplete.is at c.type_of.ensures))) (c.course_released.ensures (slot_seen a.slot))
 
 pub returns-then-not-slot-2 : goal.returns-then-not-slot-2
 returns-then-not-slot-2 c =
-    let a = c.args in (closed-facility (slot_seen a.slot) a.flag a.kind a.s.now (c.if-not-slot-2.true) (is-type a.kind Facility (rw c.in-Facility.is at c.type_of.ensures)), (refl, omega arith))
+    let a = c.args in (closed-facility (slot_seen a.slot) a.flag a.kind a.s.now (not-true _ c.if-not-slot-2.true) (is-type a.kind Facility (rw c.in-Facility.is at c.type_of.ensures)), (refl, omega arith))
 
 pub returns-in-Facility : goal.returns-in-Facility
 returns-in-Facility c =
-    let a = c.args in rw (← open-facility (slot_seen a.slot) a.flag a.kind a.s.now (c.if-not-slot-2.false) (is-type a.kind Facility (rw c.in-Facility.is at c.type_of.ensures))) (c.course_required.ensures (slot_seen a.slot))
+    let a = c.args in rw (← open-facility (slot_seen a.slot) a.flag a.kind a.s.now (not-false _ c.if-not-slot-2.false) (is-type a.kind Facility (rw c.in-Facility.is at c.type_of.ensures))) (c.course_required.ensures (slot_seen a.slot))
 
 pub returns-then-slot : goal.returns-then-slot
 returns-then-slot c =

@@ -12,17 +12,17 @@ use Rattle.deciding.proofs.decide_by_type.Goals as goal
 pub returns-in-Ignored : goal.returns-in-Ignored
 returns-in-Ignored c =
     let q = rw c.in-Ignored.is at c.course_of.ensures in
-    rw c.untold.ensures (q.0, (tt, q.1))
+    rw c.untold.ensures (record { decides = (q.0, (tt, q.1)) })
 
 pub returns-in-WithCause : goal.returns-in-WithCause
 returns-in-WithCause c =
     let q = rw c.in-WithCause.is at c.course_of.ensures in
-    rw c.untold-in-WithCause.ensures (q.0, (tt, q.1))
+    rw c.untold-in-WithCause.ensures (record { decides = (q.0, (tt, q.1)) })
 
 pub returns-in-Released : goal.returns-in-Released
 returns-in-Released c =
     let q = rw c.in-Released.is at c.course_of.ensures in
-    rw c.untold-in-Released.ensures (q.0, (tt, q.1))
+    rw c.untold-in-Released.ensures (record { decides = (q.0, (tt, q.1)) })
 
 pub weigh-decision-requires : goal.weigh-decision-requires
 weigh-decision-requires c = let q = rw c.in-Weighs.is at c.course_of.ensures in q.0
@@ -31,11 +31,11 @@ pub returns-then-not-only_shown : goal.returns-then-not-only_shown
 returns-then-not-only_shown c =
     let q = rw c.in-Weighs.is at c.course_of.ensures in
     let r : c.in-Weighs.only_shown ≡ false = c.if-not-only_shown.true in
-    (c.weigh-decision.ensures.0 ∙ (rw r at q.1), c.weigh-decision.ensures.1)
+    record { decides = (c.weigh-decision.ensures.decides.0 ∙ (rw r at q.1), c.weigh-decision.ensures.decides.1) }
 
 pub returns-in-Weighs : goal.returns-in-Weighs
 returns-in-Weighs c =
     let q = rw c.in-Weighs.is at c.course_of.ensures in
     let r : c.in-Weighs.only_shown ≡ true = c.if-not-only_shown.false in
-    let t = shown-told c.args.s.now c.weigh-decision.result c.weigh-decision.ensures.1 ∙ ap (λ (x : Decision). shown_by x) c.weigh-decision.ensures.0 in
-    (c.release.ensures.0 ∙ ap (λ (x : Shows). released (except_invoke x) (first_taken 0x08 c.args.s.now)) t ∙ (rw r at q.1), c.release.ensures.1)
+    let t = shown-told c.args.s.now c.weigh-decision.result c.weigh-decision.ensures.decides.1 ∙ ap (λ (x : Decision). shown_by x) c.weigh-decision.ensures.decides.0 in
+    record { decides = (c.release.ensures.decides.0 ∙ ap (λ (x : Shows). released (except_invoke x) (first_taken 0x08 c.args.s.now)) t ∙ (rw r at q.1), c.release.ensures.decides.1) }

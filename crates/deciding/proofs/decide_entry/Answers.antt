@@ -14,6 +14,6 @@ pub returns : goal.returns
 returns c =
     let a = c.args in
     let w : value (first_octet a.message.now) ≡ 7 → ⊥ = λ z. c.if-value_of-eq7.false (c.value_of.ensures ∙ z) in
-    let q = rw (rest_part_lem 2 a.message.now) at c.decide_by_type.ensures.0 in
-    let h = rw (rest_part_lem 2 a.message.now) at c.decide_by_type.ensures.1 in
+    let q = rw (rest_part_lem 2 a.message.now) at c.decide_by_type.ensures.decides.0 in
+    let h = rw (rest_part_lem 2 a.message.now) at c.decide_by_type.ensures.decides.1 in
     record { decides = (q ∙ picked a.table.now a.message.now w _ _ _ c.picked_entry.ensures c.read_entry-slot.ensures.1 c.flag_of.ensures, h); ready = λ z. value-least a.table.now a.message.now w }

@@ -25,8 +25,8 @@ returns-in_default c = (rw (c.linked_number.ensures, c.in_default.is, sym (among
 
 pub returns-then-not-read : goal.returns-then-not-read
 unfolding judge_invoke
-returns-then-not-read c = (rw (sym (among-is (side_seen c.args.slot.peer) c.ranges.id c.is_among.ensures) ∙ c.if-is_among.false, sym c.is_full.ensures ∙ c.if-is_full.false, sym c.is_served.ensures ∙ c.if-not-is_served.false, sym (rw c.in-Sound.is at c.judge_linked-told.ensures), sym c.suits_invoke_received-read.ensures.0 ∙ c.if-not-read.true), tt)
+returns-then-not-read c = (rw (sym (among-is (side_seen c.args.slot.peer) c.ranges.id c.is_among.ensures) ∙ c.if-is_among.false, sym c.is_full.ensures ∙ c.if-is_full.false, sym c.is_served.ensures ∙ c.if-not-is_served.false, sym (rw c.in-Sound.is at c.judge_linked-told.ensures), sym c.suits_invoke_received-read.ensures.0 ∙ not-true _ c.if-not-read.true), tt)
 
 pub returns : goal.returns
 unfolding judge_invoke
-returns c = (rw (sym (among-is (side_seen c.args.slot.peer) c.ranges.id c.is_among.ensures) ∙ c.if-is_among.false, sym c.is_full.ensures ∙ c.if-is_full.false, sym c.is_served.ensures ∙ c.if-not-is_served.false, sym (rw c.in-Sound.is at c.judge_linked-told.ensures), sym c.suits_invoke_received-read.ensures.0 ∙ c.if-not-read.false) (ap accepted (rw (held-is c.ranges.id) at c.kept.ensures)), c.suits_invoke_received-read.ensures.1)
+returns c = (rw (sym (among-is (side_seen c.args.slot.peer) c.ranges.id c.is_among.ensures) ∙ c.if-is_among.false, sym c.is_full.ensures ∙ c.if-is_full.false, sym c.is_served.ensures ∙ c.if-not-is_served.false, sym (rw c.in-Sound.is at c.judge_linked-told.ensures), sym c.suits_invoke_received-read.ensures.0 ∙ not-false _ c.if-not-read.false) (ap accepted (rw (held-is c.ranges.id) at c.kept.ensures)), c.suits_invoke_received-read.ensures.1)
