@@ -35,15 +35,7 @@ loop-i-smaller c =
 
 pub loop-i-preserved : goal.loop-i-preserved
 loop-i-preserved c =
-    feeding-step c.loop-i.invariant _ c.message_at-message.ensures.octets _ _ _ c.fill_slot.ensures.table c.fill_slot.ensures.output c.fill_slot.auto.0 c.fill_slot.auto.1.1.0 (omega arith)
+    feeding-step c.loop-i.invariant _ c.message_at-message.ensures.octets _ _ _ c.fill_slot.ensures.table c.fill_slot.ensures.output c.fill_slot.auto.table c.fill_slot.auto.output (omega arith)
 
 pub returns : goal.returns
 returns c = record { output = λ messages e. output-fed c.loop-i.invariant (omega arith) messages e; table = λ messages e. table-fed c.loop-i.invariant (omega arith) messages e }
-
--- NEED? same-length
--- same_length : tie.Need-same-length invariant-loop decreases-loop
--- same_length c = c.before.loop.invariant.table-as-long
-
--- NEED? same-length-2
--- same-length-2 : tie.Need-same-length-2 invariant-loop decreases-loop
--- same-length-2 c = c.before.loop.invariant.as_long

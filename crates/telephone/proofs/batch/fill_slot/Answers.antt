@@ -21,7 +21,7 @@ bounds-output-at-2 c = simp length-set (omega arith)
 pub put-requires : goal.put-requires
 unfolding fed
 put-requires c =
-    let l : length c.smr_receive-received.new.1.1.0 ≡ 12 = ap length c.smr_receive-received.ensures.reply ∙ fed-buffer c.args.table.now c.args.message.now in
+    let l : length c.smr_receive-received.new.reply ≡ 12 = ap length c.smr_receive-received.ensures.reply ∙ fed-buffer c.args.table.now c.args.message.now in
     simp length-set (omega arith)
 
 pub returns : goal.returns
@@ -33,7 +33,3 @@ returns c =
           ∙ filled a.output.now a.at _ _ _ (fed a.table.now a.message.now) c.requires (ap (λ (r : Received). r.code) c.smr_receive-received.ensures.returned) (ap (λ (r : Received). r.written) c.smr_receive-received.ensures.returned) c.smr_receive-received.ensures.reply;
       table = c.smr_receive-received.ensures.table;
     }
-
--- NEED? same-length-2
--- same-length-2 : tie.Need-same-length-2
--- same-length-2 c = c.before.before.put.auto.0 ∙ simp length-set

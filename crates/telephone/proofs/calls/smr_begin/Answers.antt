@@ -22,7 +22,8 @@ pub returns-in-Refused : goal.returns-in-Refused
 unfolding begin
 returns-in-Refused c =
     let e : fault c.in-Refused.code ≡ calls.send_begin c.args.table.now (length c.args.buffer.now) c.args.operation c.args.id c.args.parameter.now = (rw (held-is c.ranges.id) at (rw c.in-Refused.is at c.decide_begin.ensures.0)) in
-    refused_as c.args.table.now c.args.buffer.now (λ s. s.entry) (calls.send_begin c.args.table.now (length c.args.buffer.now) c.args.operation c.args.id c.args.parameter.now) c.in-Refused.code e
+    let r = refused_as c.args.table.now c.args.buffer.now (λ s. s.entry) (calls.send_begin c.args.table.now (length c.args.buffer.now) c.args.operation c.args.id c.args.parameter.now) c.in-Refused.code e in
+    record { returned = r.0; buffer = r.1.0; table = r.1.1 }
 
 pub sent_first-first-requires : goal.sent_first-first-requires
 sent_first-first-requires c =
@@ -44,6 +45,7 @@ returns-in-Goes c =
     let m : List ℕ = layout.register (layout.sent_first 1 c.in-Goes.entry) (component_octets (component.invoke c.args.id none c.args.operation c.args.parameter.now)) in
     let s : Sending = record { entry = c.in-Goes.entry; change = change_seen c.in-Goes.change; message = m } in
     let e : sound s ≡ calls.send_begin c.args.table.now (length c.args.buffer.now) c.args.operation c.args.id c.args.parameter.now = (rw (held-is c.ranges.id) at (rw c.in-Goes.is at c.decide_begin.ensures.0)) in
-    let f : c.put_register-written.new.0 ≡ splice c.args.buffer.now 0 m = rw (held-is c.ranges.id, c.sent_first-first.ensures) at c.put_register-written.ensures.writes in
+    let f : c.put_register-written.new.buf ≡ splice c.args.buffer.now 0 m = rw (held-is c.ranges.id, c.sent_first-first.ensures) at c.put_register-written.ensures.writes in
     let l : c.put_register-written.result ≡ length m = rw (held-is c.ranges.id, c.sent_first-first.ensures) at c.put_register-written.ensures.next in
-    sent-as c.args.table.now c.args.buffer.now (λ s. s.entry) (calls.send_begin c.args.table.now (length c.args.buffer.now) c.args.operation c.args.id c.args.parameter.now) s c.in-Goes.entry _ _ _ e refl l f c.change_entry.ensures
+    let r = sent-as c.args.table.now c.args.buffer.now (λ s. s.entry) (calls.send_begin c.args.table.now (length c.args.buffer.now) c.args.operation c.args.id c.args.parameter.now) s c.in-Goes.entry _ _ _ e refl l f c.change_entry.ensures in
+    record { returned = r.0; buffer = r.1.0; table = r.1.1 }

@@ -18,7 +18,8 @@ pub returns-in-Refused : goal.returns-in-Refused
 unfolding release
 returns-in-Refused c =
     let e : fault c.in-Refused.code ≡ calls.send_release c.args.table.now (length c.args.buffer.now) c.args.flag c.args.value = ((rw c.in-Refused.is at c.decide_release.ensures.0)) in
-    refused_as c.args.table.now c.args.buffer.now no_value (calls.send_release c.args.table.now (length c.args.buffer.now) c.args.flag c.args.value) c.in-Refused.code e
+    let r = refused_as c.args.table.now c.args.buffer.now no_value (calls.send_release c.args.table.now (length c.args.buffer.now) c.args.flag c.args.value) c.in-Refused.code e in
+    record { returned = r.0; buffer = r.1.0; table = r.1.1 }
 
 pub sent_first-first-requires : goal.sent_first-first-requires
 sent_first-first-requires c = let w = rw c.in-Goes.is at c.decide_release.ensures.1.0 in (w.1.0, omega arith)
@@ -35,6 +36,7 @@ returns-in-Goes c =
     let m : List ℕ = layout.release_empty (layout.sent_first c.args.flag c.args.value) in
     let s : Sending = record { entry = c.in-Goes.entry; change = change_seen c.in-Goes.change; message = m } in
     let e : sound s ≡ calls.send_release c.args.table.now (length c.args.buffer.now) c.args.flag c.args.value = ((rw c.in-Goes.is at c.decide_release.ensures.0)) in
-    let f : c.put_release-written.new.0 ≡ splice c.args.buffer.now 0 m = c.put_release-written.ensures.writes ∙ ap (λ (first : ℕ). splice c.args.buffer.now 0 (layout.release_empty first)) c.sent_first-first.ensures in
+    let f : c.put_release-written.new.buf ≡ splice c.args.buffer.now 0 m = c.put_release-written.ensures.writes ∙ ap (λ (first : ℕ). splice c.args.buffer.now 0 (layout.release_empty first)) c.sent_first-first.ensures in
     let l : c.put_release-written.result ≡ length m = c.put_release-written.ensures.next in
-    sent-as c.args.table.now c.args.buffer.now no_value (calls.send_release c.args.table.now (length c.args.buffer.now) c.args.flag c.args.value) s 0 _ _ _ e refl l f c.change_entry.ensures
+    let r = sent-as c.args.table.now c.args.buffer.now no_value (calls.send_release c.args.table.now (length c.args.buffer.now) c.args.flag c.args.value) s 0 _ _ _ e refl l f c.change_entry.ensures in
+    record { returned = r.0; buffer = r.1.0; table = r.1.1 }

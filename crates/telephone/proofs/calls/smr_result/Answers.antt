@@ -20,7 +20,8 @@ pub returns-in-Refused : goal.returns-in-Refused
 unfolding result
 returns-in-Refused c =
     let e : fault c.in-Refused.code ≡ calls.send_result c.args.table.now (length c.args.buffer.now) c.args.flag c.args.value c.args.id c.args.parameter.now = (rw (held-is c.ranges.id) at (rw c.in-Refused.is at c.decide_result.ensures.0)) in
-    refused_as c.args.table.now c.args.buffer.now no_value (calls.send_result c.args.table.now (length c.args.buffer.now) c.args.flag c.args.value c.args.id c.args.parameter.now) c.in-Refused.code e
+    let r = refused_as c.args.table.now c.args.buffer.now no_value (calls.send_result c.args.table.now (length c.args.buffer.now) c.args.flag c.args.value c.args.id c.args.parameter.now) c.in-Refused.code e in
+    record { returned = r.0; buffer = r.1.0; table = r.1.1 }
 
 pub sent_first-first-requires : goal.sent_first-first-requires
 sent_first-first-requires c = let w = rw c.in-Goes.is at c.decide_result.ensures.1.0 in (w.1.0, omega arith)
@@ -39,6 +40,7 @@ returns-in-Goes c =
     let m : List ℕ = layout.facility_message (layout.sent_first c.args.flag c.args.value) (component_octets (result_for c.args.id c.in-Goes.operation c.args.parameter.now)) in
     let s : Sending = record { entry = c.in-Goes.entry; change = change_seen c.in-Goes.change; message = m } in
     let e : sound s ≡ calls.send_result c.args.table.now (length c.args.buffer.now) c.args.flag c.args.value c.args.id c.args.parameter.now = (rw (held-is c.ranges.id) at (rw c.in-Goes.is at c.decide_result.ensures.0)) in
-    let f : c.put_answer-written.new.0 ≡ splice c.args.buffer.now 0 m = rw (held-is c.ranges.id, c.sent_first-first.ensures) at c.put_answer-written.ensures.writes in
+    let f : c.put_answer-written.new.buf ≡ splice c.args.buffer.now 0 m = rw (held-is c.ranges.id, c.sent_first-first.ensures) at c.put_answer-written.ensures.writes in
     let l : c.put_answer-written.result ≡ length m = rw (held-is c.ranges.id, c.sent_first-first.ensures) at c.put_answer-written.ensures.next in
-    sent-as c.args.table.now c.args.buffer.now no_value (calls.send_result c.args.table.now (length c.args.buffer.now) c.args.flag c.args.value c.args.id c.args.parameter.now) s 0 _ _ _ e refl l f c.change_entry.ensures
+    let r = sent-as c.args.table.now c.args.buffer.now no_value (calls.send_result c.args.table.now (length c.args.buffer.now) c.args.flag c.args.value c.args.id c.args.parameter.now) s 0 _ _ _ e refl l f c.change_entry.ensures in
+    record { returned = r.0; buffer = r.1.0; table = r.1.1 }

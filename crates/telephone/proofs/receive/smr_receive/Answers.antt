@@ -24,4 +24,8 @@ unfolding receive
 returns c =
     let a = c.args in
     let p : c.part-s.result.now ≡ drop 2 a.message.now = c.part-s.ensures.octets ∙ rest_part_lem 2 a.message.now in
-    rw (← c.decide-decision.ensures.decides.0) (shown-as a.table.now a.message.now a.reply.now c.decide-decision.result c.act-acted.result _ c.show.result c.decide-decision.ensures.ready c.decide-decision.ensures.decides.1 p c.act-acted.ensures.returned c.show.ensures, c.act-acted.ensures.1)
+    record {
+      returned = rw (← c.decide-decision.ensures.decides.0) (shown-as a.table.now a.message.now a.reply.now c.decide-decision.result c.act-acted.result _ c.show.result c.decide-decision.ensures.ready c.decide-decision.ensures.decides.1 p c.act-acted.ensures.returned c.show.ensures);
+      reply = rw (← c.decide-decision.ensures.decides.0) c.act-acted.ensures.reply;
+      table = rw (← c.decide-decision.ensures.decides.0) c.act-acted.ensures.table;
+    }
