@@ -1,5 +1,5 @@
 -- Blocks: what is written into one, part by part.
-use Rattle.std.proofs.Common.{◌≡◌, ℕ, zero, suc, ◌+◌, ◌-◌, ◌<◌, ◌≤◌, Bool, true, false, ◌&&◌, eqb, List, [], ◌∷◌, ◌++◌, length, take, drop, replicate, sym, refl, ap, ◌∙◌, append_assoc, append-nil, arith, length-append, length-drop, take-append-drop, drop_of_length-le, length-take-le, take-take, drop-drop, take_at, drop_at, eqb-true}
+use Rattle.std.proofs.Common.{◌≡◌, ℕ, ◌+◌, ◌-◌, ◌≤◌, true, eqb, List, [], ◌∷◌, ◌++◌, length, take, drop, sym, refl, ap, ◌∙◌, append_assoc, append-nil, arith, length-append, take-append-drop, drop_of_length-le, length-take-le, drop-drop, take_at, drop_at, eqb-true}
 use lib.ListN.{length-replicate, replicate-append-replicate}
 use lib.Seq.{drop-append-add}
 use Rattle.octets.specs.Part.{between}
@@ -7,8 +7,7 @@ use Rattle.octets.specs.Splice.{splice}
 use Rattle.octets.proofs.TestLaws.{both}
 use Rattle.octets.proofs.PartLaws.{length-between}
 use Rattle.octets.proofs.SpliceLaws.{splice-splice, splice_front}
-use Rattle.trace.specs.Numbers.{two, four, sum_of}
-use Rattle.trace.specs.Records.{Record, record_octets}
+use Rattle.trace.specs.Numbers.{two, four}
 use Rattle.trace.specs.Blocks.{used_in, record_part, rest_part, all_zero, zeros, sealed, body, block_of}
 use Rattle.trace.specs.Calls.{with_record}
 use Rattle.trace.specs.Salvage.{renumbered}

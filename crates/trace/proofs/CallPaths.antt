@@ -1,5 +1,5 @@
 -- What the definitions of the calls and of salvage say on each path through the code.
-use Rattle.std.proofs.Common.{◌≡◌, ℕ, ◌+◌, ◌/◌, ◌%◌, ◌<◌, ◌≤◌, Bool, true, false, eqb, List, [], ◌∷◌, ◌++◌, length, sym, refl, ap, ◌∙◌, append-nil, arith, drop_of_length-le, eq-eqb, ne_eqb, le-leb}
+use Rattle.std.proofs.Common.{◌≡◌, ℕ, ◌+◌, ◌/◌, ◌%◌, ◌<◌, ◌≤◌, true, false, eqb, List, [], ◌++◌, length, refl, ap, ◌∙◌, append-nil, arith, drop_of_length-le, eq-eqb, ne_eqb, le-leb}
 use borrow.Author.Tests.{lt-leb}
 use Rattle.octets.specs.Part.{between}
 use Rattle.octets.specs.Reader.{Answer, fault, sound, and_then, check}
@@ -13,8 +13,6 @@ use Rattle.trace.specs.Calls.{refused_by, done, begin_answer, begin_leaves, add_
 use Rattle.trace.specs.Steps.{next_number, wrote, holds, hands_over}
 use Rattle.trace.specs.Salvage.{fate_by, fate_of, renumbered}
 use Rattle.trace.specs.Seen.{mended}
-use Rattle.trace.specs.declared.Traced.{Traced}
-use Rattle.trace.specs.declared.Fate.{Fate}
 use Rattle.trace.specs.declared.Fate.TheVariants.{Kept, Renumbered, Dropped, Short}
 use Rattle.trace.proofs.FaultLaws.{OfBlock, block-faults, no-fault-sound}
 

@@ -1,5 +1,5 @@
 -- The contract of the record's reader leaves one answer: two that say the same of the octets are equal.
-use Rattle.std.proofs.Common.{◌≡◌, ℕ, ◌-◌, ◌≤◌, List, length, drop, sym, refl, ap, ◌∙◌, arith, length-drop}
+use Rattle.std.proofs.Common.{◌≡◌, ℕ, ◌-◌, List, length, sym, refl, ap, ◌∙◌, arith, length-drop}
 use Rattle.octets.specs.Reader.{Taken}
 use Rattle.octets.proofs.ReaderLaws.{sound-inj}
 use Rattle.trace.specs.Records.{Record}

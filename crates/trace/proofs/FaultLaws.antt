@@ -1,5 +1,5 @@
 -- A block's faults: which numbers can come, and what holds of a block without any.
-use Rattle.std.proofs.Common.{◌≡◌, ℕ, ◌+◌, ◌<◌, ◌≤◌, Bool, true, false, eqb, leb, List, length, take, sym, refl, ap, ◌∙◌, arith, eq-eqb, eqb-true, le-leb, leb-true}
+use Rattle.std.proofs.Common.{◌≡◌, ℕ, ◌<◌, ◌≤◌, Bool, true, false, eqb, leb, List, length, take, sym, refl, arith, eq-eqb, eqb-true, le-leb, leb-true}
 use borrow.Author.Tests.{eqb-false}
 use Rattle.octets.specs.Reader.{Answer, fault, sound, and_then, check}
 use Rattle.octets.proofs.FaultLaws.{Faults, check-faults}

@@ -1,7 +1,7 @@
 -- Sums, and numbers in two and four octets.
-use Rattle.std.proofs.Common.{◌≡◌, ℕ, zero, suc, ◌+◌, ◌*◌, ◌/◌, ◌%◌, ◌<◌, ◌≤◌, Bool, true, false, ◌&&◌, eqb, List, [], ◌∷◌, ◌++◌, length, get_or, drop, replicate, sym, refl, ap, ◌∙◌, append-nil, le_antisymm, add-one, arith, drop_of_length-le, drop-cons, eq-eqb, ne_eqb}
+use Rattle.std.proofs.Common.{◌≡◌, ℕ, ◌+◌, ◌/◌, ◌%◌, ◌<◌, ◌≤◌, true, false, List, [], ◌∷◌, ◌++◌, length, get_or, drop, replicate, append-nil, le_antisymm, add-one, arith, drop_of_length-le, drop-cons, eq-eqb, ne_eqb}
 use lib.Seq.{drop-length}
-use Rattle.trace.specs.Numbers.{two, four, pair_at, total, sum_of}
+use Rattle.trace.specs.Numbers.{two, four, total, sum_of}
 use Rattle.trace.specs.Blocks.{all_zero, zeros}
 
 -- a turn of the sum

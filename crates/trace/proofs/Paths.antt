@@ -1,13 +1,13 @@
 -- What the definitions say on each path through the code.
-use Rattle.std.proofs.Common.{◌≡◌, ℕ, suc, ◌+◌, ◌-◌, ◌<◌, ◌≤◌, true, false, leb, List, [], ◌∷◌, length, get_or, take, drop, sym, refl, ap, ◌∙◌, arith, drop-drop, eq-eqb, ne_eqb, le-leb}
+use Rattle.std.proofs.Common.{◌≡◌, ℕ, ◌+◌, ◌-◌, ◌<◌, ◌≤◌, true, false, List, length, get_or, take, drop, sym, refl, arith, drop-drop, eq-eqb, ne_eqb, le-leb}
 use borrow.Author.Tests.{lt-leb}
 use Rattle.octets.specs.Part.{between}
-use Rattle.octets.specs.Reader.{Answer, fault, sound, Taken, took}
+use Rattle.octets.specs.Reader.{Answer, fault, sound, took}
 use Rattle.octets.proofs.ReaderLaws.{octet-at, octet-cut}
 use Rattle.records.specs.Records.{one_record}
 use Rattle.octets.proofs.FaultLaws.{Faults}
 use Rattle.trace.specs.Numbers.{sum_of}
-use Rattle.trace.specs.Records.{Record, bad_record, directed, trace_record, records_in}
+use Rattle.trace.specs.Records.{Record, bad_record, trace_record, records_in}
 use Rattle.trace.specs.Blocks.{short_block, wrong_sum, wrong_use, sum_in, used_in, record_part, rest_part, all_zero, block_records, fault_of}
 use Rattle.trace.specs.Seen.{is_sound}
 use Rattle.trace.proofs.RecordLaws.{records-fault}

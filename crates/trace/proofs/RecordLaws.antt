@@ -1,9 +1,9 @@
 -- Records of a trace: what one holds is what was written, and of a row the first is read, then those behind it.
-use Rattle.std.proofs.Common.{◌≡◌, ℕ, zero, suc, ◌+◌, ◌<◌, ◌≤◌, Bool, true, false, ◌&&◌, leb, List, [], ◌∷◌, ◌++◌, length, sym, refl, ap, ◌∙◌, append_assoc, append-nil, arith, length-append, le-leb, leb-true}
+use Rattle.std.proofs.Common.{◌≡◌, ℕ, zero, suc, ◌<◌, ◌≤◌, true, false, ◌&&◌, leb, List, [], ◌∷◌, ◌++◌, length, sym, refl, ap, ◌∙◌, append_assoc, append-nil, arith, length-append, leb-true}
 use Rattle.octets.specs.Reader.{Answer, fault, sound, Taken, took, and_then, is_empty}
 use Rattle.octets.proofs.ReaderLaws.{sound-inj, not_sound, through, passed}
 use Rattle.octets.proofs.TestLaws.{both}
-use Rattle.octets.proofs.FaultLaws.{Faults, then-faults, check-faults, cond-faults, octet-faults}
+use Rattle.octets.proofs.FaultLaws.{Faults, then-faults, check-faults, cond-faults}
 use Rattle.records.specs.Records.{one_record}
 use Rattle.records.proofs.RecordLaws as one
 use Rattle.trace.specs.Records.{Record, bad_record, good_record, Good, record_octets, records_of, directed, trace_record, records_by, records_in}

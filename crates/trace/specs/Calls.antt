@@ -1,6 +1,5 @@
 -- The two calls from C: "An empty block of this number." and "A record behind those of a block."
-use Rattle.std.specs.Prelude.{ℕ, ◌+◌, Bool, true, false, cond, List, [], ◌∷◌, ◌++◌, length, take, ◌==◌, nat_le}
-use Rattle.octets.specs.Reader.{Answer, fault, sound}
+use Rattle.std.specs.Prelude.{ℕ, ◌+◌, Bool, true, false, cond, List, [], ◌++◌, length, take, ◌==◌, nat_le}
 use Rattle.octets.specs.Unless.{unless}
 use Rattle.trace.specs.Records.{Record, bad_record, good_record, record_octets}
 use Rattle.trace.specs.Blocks.{short_block, record_part, used_in, sealed, body, block_of, block_records, fault_of}

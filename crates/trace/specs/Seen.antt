@@ -1,8 +1,7 @@
 -- What the code's answers say of the octets that were looked at.
-use Rattle.std.specs.Prelude.{◌≡◌, ℕ, ◌+◌, ◌<◌, ◌≤◌, Bool, true, false, List, length, drop}
+use Rattle.std.specs.Prelude.{◌≡◌, ℕ, ◌<◌, ◌≤◌, Bool, true, false, List, length, drop}
 use Rattle.octets.specs.Part.{between}
 use Rattle.octets.specs.Reader.{Answer, fault, sound, Taken, took}
-use Rattle.trace.specs.Numbers.{four}
 use Rattle.trace.specs.Records.{Record, bad_record, trace_record}
 use Rattle.trace.specs.Salvage.{renumbered}
 use Rattle.trace.specs.declared.reading.Found.{Found}

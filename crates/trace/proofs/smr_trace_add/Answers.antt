@@ -4,8 +4,7 @@ use Rattle.trace.proofs.FaultLaws.{sound-row}
 use Rattle.trace.specs.Calls.{refused_by}
 use Rattle.trace.specs.Blocks.{used_in}
 use Rattle.trace.specs.Records.{Record}
-use borrow.Author.Tests.{not-true, not-false}
-use Rattle.std.proofs.Common.{◌≡◌, sym, ap, ◌∙◌, arith, rules}
+use Rattle.std.proofs.Common.{sym, ap, ◌∙◌, arith}
 use Rattle.trace.proofs.smr_trace_add.Goals as goal
 
 pub returns-then-fault-ne0 : goal.returns-then-fault-ne0

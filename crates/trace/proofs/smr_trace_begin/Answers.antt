@@ -1,5 +1,5 @@
 use Rattle.trace.proofs.CallPaths.{begin-refused, begin-done}
-use Rattle.std.proofs.Common.{◌≡◌, sym, ◌∙◌, rules}
+use Rattle.std.proofs.Common.{◌∙◌}
 use Rattle.trace.proofs.smr_trace_begin.Goals as goal
 
 pub returns-then-block-ne512 : goal.returns-then-block-ne512

@@ -1,6 +1,6 @@
 use Rattle.trace.proofs.BlockLaws.{empty_block}
 use Rattle.trace.specs.Salvage.{renumbered}
-use Rattle.std.proofs.Common.{length, ap, ◌∙◌, arith, rules}
+use Rattle.std.proofs.Common.{length, ap, ◌∙◌, arith}
 use Rattle.trace.proofs.blocks.begin_block.Goals as goal
 
 pub returns : goal.returns

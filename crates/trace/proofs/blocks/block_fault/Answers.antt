@@ -1,7 +1,6 @@
 use Rattle.trace.proofs.Paths.{is-short, bad_sum_lem, bad-use, bad-rest, bad-records, no-fault}
 use Rattle.trace.specs.Blocks.{sum_in, used_in, rest_part, record_part}
-use borrow.Author.Tests.{not-true, not-false}
-use Rattle.std.proofs.Common.{◌≡◌, ◌+◌, ◌-◌, ◌≤◌, length, drop, sym, refl, ap, ◌∙◌, arith, length-drop, length-take-le, rules}
+use Rattle.std.proofs.Common.{sym, ◌∙◌, arith, length-take-le}
 use Rattle.trace.proofs.blocks.block_fault.Goals as goal
 
 pub returns-then-block-ne512 : goal.returns-then-block-ne512

@@ -1,7 +1,6 @@
-use Rattle.std.proofs.Common.{◌≡◌, ◌-◌, ◌≤◌, ◌++◌, length, drop, replicate, ◌∙◌, append-nil, le_antisymm, arith, length-set, rules}
+use Rattle.std.proofs.Common.{◌∙◌, arith, length-set}
 use Rattle.trace.proofs.NumberLaws.{filled}
-use borrow.Author.Fill.{fill_none, fill_more}
-use lib.Seq.{drop-length}
+use borrow.Author.Fill.{fill_more}
 use Rattle.trace.proofs.blocks.clear.Goals as goal
 
 pub loop-i-preserved : goal.loop-i-preserved

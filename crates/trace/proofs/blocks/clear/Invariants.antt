@@ -1,7 +1,4 @@
-use Rattle.std.proofs.Common.{◌≡◌, ◌-◌, ◌≤◌, ◌++◌, length, drop, replicate, ◌∙◌, append-nil, le_antisymm, arith, length-set, rules}
-use Rattle.trace.proofs.NumberLaws.{filled}
-use borrow.Author.Fill.{fill_none, fill_more}
-use lib.Seq.{drop-length}
+use Rattle.std.proofs.Common.{◌≡◌, ◌-◌, ◌≤◌, ◌++◌, length, drop, replicate}
 use Rattle.trace.proofs.blocks.clear.Given as goal
 
 abbrev pub invariant-loop-i : goal.invariant-loop-i

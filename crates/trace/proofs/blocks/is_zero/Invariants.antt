@@ -1,6 +1,5 @@
-use Rattle.trace.proofs.NumberLaws.{zero-on, zero-here, zero-over}
 use Rattle.trace.specs.Blocks.{all_zero}
-use Rattle.std.proofs.Common.{◌≡◌, ◌-◌, length, drop, sym, refl, ◌∙◌, rules}
+use Rattle.std.proofs.Common.{◌≡◌, ◌-◌, length, drop}
 use Rattle.trace.proofs.blocks.is_zero.Given as goal
 
 abbrev pub invariant-loop-i : goal.invariant-loop-i

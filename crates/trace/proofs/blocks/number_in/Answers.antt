@@ -1,5 +1,4 @@
 use Rattle.trace.specs.Blocks.{number_in}
-use Rattle.std.proofs.Common.{rules}
 use Rattle.trace.proofs.blocks.number_in.Goals as goal
 
 pub returns : goal.returns

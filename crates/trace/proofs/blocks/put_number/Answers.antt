@@ -2,7 +2,7 @@ use Rattle.trace.proofs.BlockLaws.{number_put}
 use Rattle.trace.proofs.NumberLaws.{four-written}
 use Rattle.trace.specs.Blocks.{sealed}
 use Rattle.octets.specs.Splice.{splice}
-use Rattle.std.proofs.Common.{take, ap, ◌∙◌, arith, rules}
+use Rattle.std.proofs.Common.{take, ap, ◌∙◌, arith}
 use Rattle.trace.proofs.blocks.put_number.Goals as goal
 
 pub returns : goal.returns

@@ -1,6 +1,6 @@
 use Rattle.trace.proofs.NumberLaws.{two-written}
 use Rattle.octets.specs.Splice.{splice}
-use Rattle.std.proofs.Common.{ap, ◌∙◌, arith, rules}
+use Rattle.std.proofs.Common.{ap, ◌∙◌}
 use Rattle.trace.proofs.blocks.put_pair.Goals as goal
 
 pub returns : goal.returns

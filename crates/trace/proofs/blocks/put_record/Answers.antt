@@ -2,7 +2,7 @@ use Rattle.trace.proofs.BlockLaws.{record-put}
 use Rattle.trace.specs.Blocks.{sealed}
 use Rattle.trace.specs.Numbers.{two}
 use Rattle.octets.specs.Splice.{splice}
-use Rattle.std.proofs.Common.{◌+◌, [], ◌∷◌, length, take, ap, ◌∙◌, arith, rules}
+use Rattle.std.proofs.Common.{◌+◌, length, take, ap, ◌∙◌}
 use Rattle.trace.proofs.blocks.put_record.Goals as goal
 
 pub returns : goal.returns

@@ -2,7 +2,7 @@ use Rattle.trace.proofs.BlockLaws.{seal-put}
 use Rattle.trace.proofs.NumberLaws.{sum_below}
 use Rattle.trace.specs.Blocks.{sealed}
 use Rattle.trace.specs.Numbers.{two}
-use Rattle.std.proofs.Common.{◌++◌, take, sym, ap, ◌∙◌, arith, length-take-le, rules}
+use Rattle.std.proofs.Common.{◌++◌, take, sym, ap, ◌∙◌, arith, length-take-le}
 use Rattle.trace.proofs.blocks.seal.Goals as goal
 
 pub slice_bounds-sum_of-end-2 : goal.slice_bounds-sum_of-end-2

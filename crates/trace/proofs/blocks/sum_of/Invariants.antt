@@ -1,6 +1,5 @@
-use Rattle.trace.proofs.NumberLaws.{sum-on, sum_over}
 use Rattle.trace.specs.Numbers.{total, sum_of}
-use Rattle.std.proofs.Common.{◌≡◌, ◌+◌, ◌-◌, ◌%◌, ◌<◌, length, drop, sym, refl, ◌∙◌, zero-add, arith, rules}
+use Rattle.std.proofs.Common.{◌≡◌, ◌+◌, ◌-◌, ◌%◌, ◌<◌, length, drop}
 use Rattle.trace.proofs.blocks.sum_of.Given as goal
 
 abbrev pub invariant-loop-i : goal.invariant-loop-i

@@ -1,6 +1,6 @@
 use Rattle.trace.proofs.CallPaths.{at-fault, at_other, at_place}
 use Rattle.trace.proofs.FaultLaws.{sound-row}
-use Rattle.std.proofs.Common.{◌≡◌, sym, ap, ◌∙◌, arith, rules}
+use Rattle.std.proofs.Common.{sym, ◌∙◌, arith}
 use Rattle.trace.proofs.places.fault_at.Goals as goal
 
 pub returns-then-fault-ne0 : goal.returns-then-fault-ne0

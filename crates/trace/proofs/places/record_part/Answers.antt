@@ -1,6 +1,6 @@
 use Rattle.trace.specs.Blocks.{record_part, used_in}
 use Rattle.octets.specs.Part.{between}
-use Rattle.std.proofs.Common.{◌+◌, ap, ◌∙◌, rules}
+use Rattle.std.proofs.Common.{◌+◌, ap, ◌∙◌}
 use Rattle.trace.proofs.places.record_part.Goals as goal
 
 pub returns : goal.returns

@@ -2,7 +2,7 @@ use Rattle.trace.proofs.RecordLaws.{sound-step, sound-bad, sound-last}
 use Rattle.trace.specs.Seen.{is_sound}
 use Rattle.trace.specs.Records.{records_in}
 use Rattle.octets.proofs.PartLaws.{rest_part_lem}
-use Rattle.std.proofs.Common.{◌≡◌, ◌+◌, ◌-◌, ◌≤◌, length, drop, sym, refl, ap, ◌∙◌, arith, length-drop, drop-drop, rules}
+use Rattle.std.proofs.Common.{drop, sym, refl, ap, ◌∙◌, arith, length-drop, drop-drop}
 use Rattle.trace.proofs.reading.are_records.Goals as goal
 
 pub loop-i-init : goal.loop-i-init

@@ -1,4 +1,4 @@
-use Rattle.std.proofs.Common.{◌≡◌, refl, arith, length-drop, rules}
+use Rattle.std.proofs.Common.{arith, length-drop}
 use Rattle.trace.proofs.Paths.{no-octet, no-direction, no-message, whole-record}
 use Rattle.octets.proofs.PartLaws.{rest_part_lem}
 use Rattle.trace.proofs.reading.read_traced.Goals as goal

@@ -1,8 +1,7 @@
 use Rattle.trace.specs.Blocks.{block_of}
-use Rattle.std.proofs.Common.{◌≡◌, true, false, [], sym, ap, ◌∙◌, arith, rules}
+use Rattle.std.proofs.Common.{true, false, [], sym, ap, ◌∙◌, rules}
 use Rattle.trace.proofs.CallPaths.{wrote-refused, wrote-added, wrote-full}
 use Rattle.trace.specs.Calls.{add_leaves}
-use Rattle.trace.specs.declared.writing.Wrote.{Wrote}
 use Rattle.trace.specs.declared.Traced.{Traced}
 use Rattle.trace.specs.Records.{Record}
 use Rattle.trace.proofs.writing.write_record.Goals as goal
@@ -26,4 +25,10 @@ pub returns : goal.returns
 returns c =
     let a = c.args in
     let r : Record = record { direction = a.direction; message = a.message.now } in
-    let w = wrote-full a.held.now a.number r a.full.now (sym (ap (λ (t : Traced). t.code) c.smr_trace_add-first.ensures.answer) ∙ c.if-first-ne0.false) _ c.smr_trace_add-first.ensures.block (search rules) (sym (ap (λ (t : Traced). t.added) c.smr_trace_add-first.ensures.answer) ∙ c.if-first.false) in record { answer = c.wrote_of-2.ensures ∙ ap (λ k. record { code = 0; number = k; is_full = true }) c.wrapping_add_u32-next.ensures ∙ w.0; held = c.smr_trace_add.ensures.block ∙ ap (λ t. add_leaves t r) (c.begin_block.ensures ∙ ap (λ k. block_of k []) c.wrapping_add_u32-next.ensures) ∙ w.1.0; full = c.put.ensures ∙ w.1.1 }
+    let w = wrote-full a.held.now a.number r a.full.now (sym (ap (λ (t : Traced). t.code) c.smr_trace_add-first.ensures.answer) ∙ c.if-first-ne0.false) _ c.smr_trace_add-first.ensures.block (search rules) (sym (ap (λ (t : Traced). t.added) c.smr_trace_add-first.ensures.answer) ∙ c.if-first.false) in
+    let n = c.wrapping_add_u32-next.ensures.value in
+    record {
+      answer = c.wrote_of-2.ensures ∙ ap (λ k. record { code = 0; number = k; is_full = true }) n ∙ w.0;
+      held = c.smr_trace_add.ensures.block ∙ ap (λ t. add_leaves t r) (c.begin_block.ensures ∙ ap (λ k. block_of k []) n) ∙ w.1.0;
+      full = c.put.ensures ∙ w.1.1;
+    }

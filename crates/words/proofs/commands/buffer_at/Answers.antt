@@ -1,6 +1,4 @@
-use borrow.Author.Rules.{rules}
 use mathlib.Core.Path.{sym, ap, ◌∙◌}
-use borrow.Author.Tests.{not-true, not-false}
 use Rattle.words.specs.Numbers.{number}
 use Rattle.words.proofs.CommandLaws.{buffer-more, buffer-no-number, buffer-is}
 use Rattle.words.proofs.commands.buffer_at.Goals as goal

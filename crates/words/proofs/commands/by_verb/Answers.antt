@@ -1,4 +1,3 @@
-use borrow.Author.Rules.{rules}
 use mathlib.Core.Path.{sym, ap, ◌∙◌}
 use Rattle.words.specs.Commands.{by_verb}
 use Rattle.words.proofs.commands.by_verb.Goals as goal

@@ -1,4 +1,3 @@
-use borrow.Author.Rules.{rules}
 use mathlib.Core.Path.{ap, ◌∙◌}
 use Rattle.octets.specs.Reader.{is_empty}
 use Rattle.words.specs.Words.{spelled}

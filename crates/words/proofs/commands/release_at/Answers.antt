@@ -1,7 +1,5 @@
-use borrow.Author.Rules.{rules}
 use mathlib.Core.Path.{sym, ◌∙◌}
 use Rattle.words.proofs.CommandLaws.{release-no-flag, release-no-value, release-more, release-is}
-use borrow.Author.Tests.{not-true, not-false}
 use Rattle.words.proofs.commands.release_at.Goals as goal
 
 pub returns-in_default : goal.returns-in_default

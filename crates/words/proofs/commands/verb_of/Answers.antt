@@ -1,4 +1,3 @@
-use borrow.Author.Rules.{rules}
 use mathlib.Core.Path.{sym, ◌∙◌}
 use Rattle.words.proofs.VerbLaws.{verb-receive, verb-begin, verb-invoke, verb-result, verb-error, verb-release, verb-table, verb-buffer, verb-batch, verb-other}
 use Rattle.words.proofs.commands.verb_of.Goals as goal

@@ -1,8 +1,4 @@
-use borrow.Author.Rules.{rules}
-use Prim.Native.Nat.{◌+◌, ◌-◌}
-use mathlib.Core.Path.{◌≡◌, refl, sym, ◌∙◌}
-use lib.ListN.{length, drop}
-use Rattle.words.specs.Lines.{line_end}
+use mathlib.Core.Path.{sym, ◌∙◌}
 use Rattle.words.proofs.LineLaws.{line-here, line_on, line-over}
 use Rattle.words.proofs.lines.line_end.Goals as goal
 

@@ -1,10 +1,6 @@
-use borrow.Author.Rules.{rules}
-use Prim.Native.Nat.{◌-◌, ◌≤◌}
-use mathlib.Core.Path.{◌≡◌, sym, ◌∙◌}
+use mathlib.Core.Path.{sym, ◌∙◌}
 use native.Mathlib.Omega.{arith}
-use borrow.Author.Tests.{not-true, not-false}
-use lib.ListN.{length, drop, get_or}
-use Rattle.words.specs.Numbers.{number, number_from}
+use lib.ListN.{get_or}
 use Rattle.words.proofs.NumberLaws.{in-range, number-empty, number-some, number-end, number-no-digit, number-large, number-on}
 use Rattle.words.proofs.numbers.number.Goals as goal
 

@@ -1,10 +1,7 @@
-use borrow.Author.Rules.{rules}
 use Prim.Native.Nat.{◌-◌, ◌≤◌}
-use mathlib.Core.Path.{◌≡◌, refl, sym, ◌∙◌}
-use native.Mathlib.Omega.{arith}
+use mathlib.Core.Path.{◌≡◌}
 use lib.ListN.{length, drop}
 use Rattle.words.specs.Words.{same}
-use Rattle.words.proofs.WordLaws.{other_length, same-on, same_not, same_end}
 use Rattle.words.proofs.text.is_same.Given as goal
 
 abbrev pub invariant-loop-i : goal.invariant-loop-i

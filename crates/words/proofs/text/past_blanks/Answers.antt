@@ -1,9 +1,4 @@
-use borrow.Author.Rules.{rules}
-use Prim.Native.Nat.{◌+◌, ◌-◌}
-use mathlib.Core.Path.{◌≡◌, refl, sym, ◌∙◌}
-use lib.ListN.{length, drop}
-use borrow.Author.Tests.{not-true, not-false}
-use Rattle.words.specs.Words.{blanks}
+use mathlib.Core.Path.{sym, ◌∙◌}
 use Rattle.words.proofs.WordLaws.{blanks-here, blanks-on, blanks-end}
 use Rattle.words.proofs.text.past_blanks.Goals as goal
 

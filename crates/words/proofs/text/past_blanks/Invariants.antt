@@ -1,10 +1,7 @@
-use borrow.Author.Rules.{rules}
 use Prim.Native.Nat.{◌+◌, ◌-◌}
-use mathlib.Core.Path.{◌≡◌, refl, sym, ◌∙◌}
+use mathlib.Core.Path.{◌≡◌}
 use lib.ListN.{length, drop}
-use borrow.Author.Tests.{not-true, not-false}
 use Rattle.words.specs.Words.{blanks}
-use Rattle.words.proofs.WordLaws.{blanks-here, blanks-on, blanks-end}
 use Rattle.words.proofs.text.past_blanks.Given as goal
 
 abbrev pub invariant-loop-i : goal.invariant-loop-i

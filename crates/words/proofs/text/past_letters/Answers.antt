@@ -1,8 +1,4 @@
-use borrow.Author.Rules.{rules}
-use Prim.Native.Nat.{◌+◌, ◌-◌}
-use mathlib.Core.Path.{◌≡◌, refl, sym, ◌∙◌}
-use lib.ListN.{length, drop}
-use Rattle.words.specs.Words.{letters}
+use mathlib.Core.Path.{sym, ◌∙◌}
 use Rattle.words.proofs.WordLaws.{letters-here, letters-on, letters-end}
 use Rattle.words.proofs.text.past_letters.Goals as goal
 

@@ -1,9 +1,7 @@
-use borrow.Author.Rules.{rules}
 use Prim.Native.Nat.{◌+◌, ◌-◌}
-use mathlib.Core.Path.{◌≡◌, refl, sym, ◌∙◌}
+use mathlib.Core.Path.{◌≡◌}
 use lib.ListN.{length, drop}
 use Rattle.words.specs.Words.{letters}
-use Rattle.words.proofs.WordLaws.{letters-here, letters-on, letters-end}
 use Rattle.words.proofs.text.past_letters.Given as goal
 
 abbrev pub invariant-loop-i : goal.invariant-loop-i

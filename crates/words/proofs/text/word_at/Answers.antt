@@ -1,4 +1,3 @@
-use borrow.Author.Rules.{rules}
 use mathlib.Core.Path.{sym}
 use Rattle.words.proofs.WordLaws.{word-is}
 use Rattle.words.proofs.text.word_at.Goals as goal
