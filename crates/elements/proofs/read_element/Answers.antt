@@ -10,6 +10,7 @@ use Rattle.elements.proofs.Tags.{not-refused}
 use Rattle.elements.proofs.read_element.Goals as goal
 use Rattle.elements.proofs.read_element.Goals.{Joined-tag-lt128, in-1-to-30, in-1-to-30-2, in-1-to-30-3, in-1-to-30-4, in-1-to-30-5, in-1-to-30-6, in-1-to-30-7, in-1-to-30-8}
 
+-- each of the eight ranges
 good : (c : Joined-tag-lt128) → refused_tag (get_or c.args.s.now 0 0) ≡ false
 good c =
     let tag = get_or c.args.s.now 0 0 in

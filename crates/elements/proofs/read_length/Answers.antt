@@ -29,11 +29,3 @@ overflow_add-result c = omega (arith, c.shared_slice_known-4-1.given 1, c.shared
 
 pub returns : goal.returns
 returns c = (two c.args.s.now (omega arith) c.if-first-2.false c.if-s-lt3.false, omega (arith, c.shared_slice_known-4-1.given 1, c.shared_slice_known-4-1.given 2))
-
--- NEED? overflow-cast-t3
--- cast-t3 : tie.Need-overflow-cast-t3
--- cast-t3 c = omega (arith, c.shared-slice-known4.given 1)
-
--- NEED? overflow-cast-t16
--- cast-t16 : tie.Need-overflow-cast-t16
--- cast-t16 c = omega (arith, c.shared-slice-known5.given 2)

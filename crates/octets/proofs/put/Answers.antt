@@ -18,7 +18,3 @@ loop-j-preserved c =
 pub returns : goal.returns
 returns c =
     let a = c.args in c.loop-j.invariant.1.0 ∙ whole a.buf.now a.at a.src.now c.loop-j.j (le_antisymm c.loop-j.invariant.0 c.loop-j-test.false)
-
--- NEED? same-length
--- same_length : tie.Need-same-length invariant-loop decreases-loop
--- same_length c = c.before.loop.invariant.1.1

@@ -24,7 +24,3 @@ returns c =
     above : (k : ℕ) → (k ≡ 0 → ⊥) → 1 < 1 + k
     above zero z = absurd (z refl)
     above (suc k) z = omega arith
-
--- NEED? overflow-cast-n
--- cast-n : tie.Need-overflow-cast-n
--- cast-n c = omega (arith, c.shared-slice-known.given 0)

@@ -10,6 +10,7 @@ use Rattle.codes.specs.Errors.{of_service}
 use Rattle.codes.proofs.Runs.{agree, agree_at, at_key, neither, on}
 use Rattle.codes.proofs.errors.is_of_service.Goals as goal
 
+-- the keys of the arms: two that all five share, three that 12 and 13 have, and the other three
 abbrev shared : List ℕ
 shared = 13 ∷ 16 ∷ []
 
@@ -19,6 +20,7 @@ of_two = 19 ∷ 38 ∷ 43 ∷ []
 abbrev others : List ℕ
 others = 17 ∷ 18 ∷ 20 ∷ of_two
 
+-- the three for a run of operations
 of_two_lem : (b : Bool) (low n : ℕ) → agree (λ o. true) (λ o. agree_at (λ k. b) (of_service o) of_two) [] low n ≡ true → (operation : ℕ) → low ≤ operation → operation < low + n → {code : ℕ} → OneOf of_two code → b ≡ of_service operation code
 of_two_lem b low n t operation p q {code} h =
     at_key (λ k. b) (of_service operation) of_two (sym (on (λ o. true) (λ o. agree_at (λ k. b) (of_service o) of_two) [] low n t operation p q (λ e. e))) code h
@@ -51,6 +53,7 @@ returns-in_default-operation-2 c =
 pub returns-in_default : goal.returns-in_default
 returns-in_default c = on (λ k. false) (of_service c.args.operation) [] 0 10 refl c.args.code (omega arith) (omega arith) (λ e. e)
 
+-- between the ranges stand keys of each arm
 pub returns-in_default-2 : goal.returns-in_default-2
 returns-in_default-2 c =
     let a = c.args in

@@ -10,6 +10,7 @@ use Rattle.codes.proofs.ErrorLaws.{service-lists}
 use Rattle.codes.proofs.Runs.{on}
 use Rattle.codes.proofs.errors.may_return.Goals as goal
 
+-- an operation that has no list
 abbrev is_none : List ℕ → Bool
 is_none [] = true
 is_none (c ∷ cs) = false

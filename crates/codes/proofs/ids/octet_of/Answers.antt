@@ -9,6 +9,7 @@ use Rattle.codes.proofs.Halves.{high, low}
 use Rattle.codes.proofs.IdLaws.{octet-is}
 use Rattle.codes.proofs.ids.octet_of.Goals as goal
 
+-- what stands for !id: the bits turned, below 128
 turned : (c : goal.Then-id-lt0) → to_z w8 (255 - of_z w8 c.args.id) ≡ pos (255 - of_z w8 c.args.id)
 turned c = let h : 128 ≤ of_z w8 c.args.id = high c.ranges.id c.if-id-lt0.true in to_z_pos w8 (omega arith)
 
