@@ -27,7 +27,7 @@ pub write_header-next-requires : goal.write_header-next-requires
 write_header-next-requires c =
     let a = c.args in
     let i = inner-length a.operation a.p.now c.requires.0 in
-    let f = fits-as a.at (length a.buf.now) (answer-full a.id c.octet_of.result a.operation a.p.now (handed c.ranges.id c.octet_of.ensures) c.if-p-eq0.false) c.requires.1 in
+    let f = fits-as a.at (length a.buf.now) (answer-full a.id c.octet_of.result a.operation a.p.now (handed c.ranges.id c.octet_of.ensures) (omega arith)) c.requires.1 in
     let l = pieces-length 0xA2 (0x02 ∷ 0x01 ∷ c.octet_of.result ∷ []) (written 0x30 (0x02 ∷ 0x01 ∷ a.operation ∷ a.p.now)) in
     let e : c.enclosed_length.result ≡ length (written 0x30 (0x02 ∷ 0x01 ∷ a.operation ∷ a.p.now)) = c.enclosed_length.ensures ∙ sym i.0 in
     rw e (omega arith, omega arith)
@@ -37,7 +37,7 @@ put-requires c =
     let a = c.args in
     let inner : List ℕ = written 0x30 (0x02 ∷ 0x01 ∷ a.operation ∷ a.p.now) in
     let j = inner-length a.operation a.p.now c.requires.0 in
-    let f = fits-as a.at (length a.buf.now) (answer-full a.id c.octet_of.result a.operation a.p.now (handed c.ranges.id c.octet_of.ensures) c.if-p-eq0.false) c.requires.1 in
+    let f = fits-as a.at (length a.buf.now) (answer-full a.id c.octet_of.result a.operation a.p.now (handed c.ranges.id c.octet_of.ensures) (omega arith)) c.requires.1 in
     let l = pieces-length 0xA2 (0x02 ∷ 0x01 ∷ c.octet_of.result ∷ []) inner in
     let e : c.enclosed_length.result ≡ length inner = c.enclosed_length.ensures ∙ sym j.0 in
     omega (arith, c.write_header-next.auto.buf, rw e at c.write_header-next.ensures.next)
@@ -47,7 +47,7 @@ overflow_add-next c =
     let a = c.args in
     let inner : List ℕ = written 0x30 (0x02 ∷ 0x01 ∷ a.operation ∷ a.p.now) in
     let j = inner-length a.operation a.p.now c.requires.0 in
-    let f = fits-as a.at (length a.buf.now) (answer-full a.id c.octet_of.result a.operation a.p.now (handed c.ranges.id c.octet_of.ensures) c.if-p-eq0.false) c.requires.1 in
+    let f = fits-as a.at (length a.buf.now) (answer-full a.id c.octet_of.result a.operation a.p.now (handed c.ranges.id c.octet_of.ensures) (omega arith)) c.requires.1 in
     let l = pieces-length 0xA2 (0x02 ∷ 0x01 ∷ c.octet_of.result ∷ []) inner in
     let e : c.enclosed_length.result ≡ length inner = c.enclosed_length.ensures ∙ sym j.0 in
     omega (arith, rw e at c.write_header-next.ensures.next)
@@ -57,7 +57,7 @@ write_enclosed-requires-2 c =
     let a = c.args in
     let inner : List ℕ = written 0x30 (0x02 ∷ 0x01 ∷ a.operation ∷ a.p.now) in
     let j = inner-length a.operation a.p.now c.requires.0 in
-    let f = fits-as a.at (length a.buf.now) (answer-full a.id c.octet_of.result a.operation a.p.now (handed c.ranges.id c.octet_of.ensures) c.if-p-eq0.false) c.requires.1 in
+    let f = fits-as a.at (length a.buf.now) (answer-full a.id c.octet_of.result a.operation a.p.now (handed c.ranges.id c.octet_of.ensures) (omega arith)) c.requires.1 in
     let l = pieces-length 0xA2 (0x02 ∷ 0x01 ∷ c.octet_of.result ∷ []) inner in
     let e : c.enclosed_length.result ≡ length inner = c.enclosed_length.ensures ∙ sym j.0 in
     (omega arith, omega (arith, c.write_header-next.auto.buf, c.put.auto.buf, rw e at c.write_header-next.ensures.next))
@@ -67,10 +67,10 @@ returns c =
     let a = c.args in
     let inner : List ℕ = written 0x30 (0x02 ∷ 0x01 ∷ a.operation ∷ a.p.now) in
     let j = inner-length a.operation a.p.now c.requires.0 in
-    let f = fits-as a.at (length a.buf.now) (answer-full a.id c.octet_of.result a.operation a.p.now (handed c.ranges.id c.octet_of.ensures) c.if-p-eq0.false) c.requires.1 in
+    let f = fits-as a.at (length a.buf.now) (answer-full a.id c.octet_of.result a.operation a.p.now (handed c.ranges.id c.octet_of.ensures) (omega arith)) c.requires.1 in
     let l = pieces-length 0xA2 (0x02 ∷ 0x01 ∷ c.octet_of.result ∷ []) inner in
     let e : c.enclosed_length.result ≡ length inner = c.enclosed_length.ensures ∙ sym j.0 in
     let r =
-    as_written a.buf.now a.at (answer-full a.id c.octet_of.result a.operation a.p.now (handed c.ranges.id c.octet_of.ensures) c.if-p-eq0.false)
+    as_written a.buf.now a.at (answer-full a.id c.octet_of.result a.operation a.p.now (handed c.ranges.id c.octet_of.ensures) (omega arith))
     (pieces a.buf.now _ _ _ a.at 0xA2 (0x02 ∷ 0x01 ∷ c.octet_of.result ∷ []) inner _ _ f (rw e at c.write_header-next.ensures.writes) (rw e at c.write_header-next.ensures.next) c.put.ensures c.write_enclosed-2.ensures.writes refl, omega (arith, rw e at c.write_header-next.ensures.next, c.write_enclosed-2.ensures.next)) in
     record { writes = r.0; next = r.1 }

@@ -11,7 +11,3 @@ returns-then-s-n c = (sized-cut c.args.s.now (omega arith) c.if-s-n.true, tt)
 
 pub returns : goal.returns
 returns c = (sized-is c.args.s.now (omega arith) c.if-s-n.false, omega arith)
-
--- NEED? overflow-cast-n
--- cast-n : tie.Need-overflow-cast-n
--- cast-n c = omega (arith, c.shared-slice-known.given 0)

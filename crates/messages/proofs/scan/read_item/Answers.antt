@@ -17,7 +17,3 @@ returns-then-s-n c = (item-cut c.args.s.now (omega arith) c.if-identifier-ge128.
 
 pub returns : goal.returns
 returns c = (item-whole c.args.s.now (omega arith) c.if-identifier-ge128.false c.if-s-lt2.false c.if-s-n.false, omega arith)
-
--- NEED? overflow-cast-n
--- cast-n : tie.Need-overflow-cast-n
--- cast-n c = omega (arith, c.shared-slice-known2.given 1)
