@@ -162,8 +162,7 @@ fn refused(code: u8) -> Laid
 }
 
 // A string of any length and content: its text and its lines, if there is room for both.
-#[unsafe(no_mangle)]
-pub extern "C" fn smr_cells(scheme: u8, string: &[u8], text: &mut [u16], lines: &mut [u8]) -> Laid
+pub fn smr_cells(scheme: u8, string: &[u8], text: &mut [u16], lines: &mut [u8]) -> Laid
     ensures returned { result ≡ (cells scheme string.now text.old lines.old).laid }
     ensures text { text.new ≡ (cells scheme string.now text.old lines.old).text }
     ensures lines { lines.new ≡ (cells scheme string.now text.old lines.old).lines }

@@ -68,8 +68,7 @@ fn refused(code: u8) -> Batched
 }
 
 // All records are looked at before any is fed: a refused batch changes nothing.
-#[unsafe(no_mangle)]
-pub extern "C" fn smr_batch(table: &mut [u8], records: &[u8], output: &mut [u8]) -> Batched
+pub fn smr_batch(table: &mut [u8], records: &[u8], output: &mut [u8]) -> Batched
     ensures returned { result ≡ batched_of (batch table.old records.now output.old) }
     ensures output { output.new ≡ (batch table.old records.now output.old).output }
     ensures table { table.new ≡ (batch table.old records.now output.old).table }

@@ -14,8 +14,7 @@ pub struct Called {
     pub written: usize,
 }
 
-#[unsafe(no_mangle)]
-pub extern "C" fn smr_begin(
+pub fn smr_begin(
     table: &mut [u8],
     operation: u8,
     id: i8,
@@ -51,8 +50,7 @@ pub extern "C" fn smr_begin(
     }
 }
 
-#[unsafe(no_mangle)]
-pub extern "C" fn smr_invoke(
+pub fn smr_invoke(
     table: &mut [u8],
     flag: u8,
     value: u8,
@@ -90,8 +88,7 @@ pub extern "C" fn smr_invoke(
     }
 }
 
-#[unsafe(no_mangle)]
-pub extern "C" fn smr_result(
+pub fn smr_result(
     table: &mut [u8],
     flag: u8,
     value: u8,
@@ -128,8 +125,7 @@ pub extern "C" fn smr_result(
     }
 }
 
-#[unsafe(no_mangle)]
-pub extern "C" fn smr_error(
+pub fn smr_error(
     table: &mut [u8],
     flag: u8,
     value: u8,
@@ -167,8 +163,7 @@ pub extern "C" fn smr_error(
     }
 }
 
-#[unsafe(no_mangle)]
-pub extern "C" fn smr_release(table: &mut [u8], flag: u8, value: u8, buffer: &mut [u8]) -> Called
+pub fn smr_release(table: &mut [u8], flag: u8, value: u8, buffer: &mut [u8]) -> Called
     ensures returned { result ≡ called_of (release table.old buffer.old flag value) }
     ensures buffer { buffer.new ≡ (release table.old buffer.old flag value).buffer }
     ensures table { table.new ≡ (release table.old buffer.old flag value).table }

@@ -1,5 +1,5 @@
-// The telephone: a received message or a local call, decided first and then acted on; and recorded messages, one by one. These
-// are the calls from C.
+// The telephone: a received message or a local call, decided first and then acted on; and recorded messages, one by one. C calls
+// them through telephone_c.
 #![tactic(auto)]
 
 pub mod batch;

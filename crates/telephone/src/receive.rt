@@ -124,8 +124,7 @@ fn act(table: &mut [u8], message: &[u8], reply: &mut [u8], decision: Decision) -
 }
 
 // A message of any length and content, in any state of the table, gets its one verdict.
-#[unsafe(no_mangle)]
-pub extern "C" fn smr_receive(table: &mut [u8], message: &[u8], reply: &mut [u8]) -> Received
+pub fn smr_receive(table: &mut [u8], message: &[u8], reply: &mut [u8]) -> Received
     ensures returned { result ≡ received_of (length message.now) (receive table.old message.now reply.old) }
     ensures reply { reply.new ≡ (receive table.old message.now reply.old).buffer }
     ensures table { table.new ≡ (receive table.old message.now reply.old).table }

@@ -40,8 +40,7 @@ fn answer(code: u8, added: bool) -> Traced
 }
 
 // An empty block of this number.
-#[unsafe(no_mangle)]
-pub extern "C" fn smr_trace_begin(block: &mut [u8], number: u32) -> Traced
+pub fn smr_trace_begin(block: &mut [u8], number: u32) -> Traced
     ensures answer { result ≡ begin_answer block.old }
     ensures block { block.new ≡ begin_leaves block.old number }
 {
@@ -53,8 +52,7 @@ pub extern "C" fn smr_trace_begin(block: &mut [u8], number: u32) -> Traced
 }
 
 // A record behind those of a block.
-#[unsafe(no_mangle)]
-pub extern "C" fn smr_trace_add(block: &mut [u8], direction: u8, message: &[u8]) -> Traced
+pub fn smr_trace_add(block: &mut [u8], direction: u8, message: &[u8]) -> Traced
     ensures answer { result ≡ add_answer block.old (record { direction = direction; message = message.now }) }
     ensures block { block.new ≡ add_leaves block.old (record { direction = direction; message = message.now }) }
 {

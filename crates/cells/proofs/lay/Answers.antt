@@ -22,7 +22,10 @@ pub turn-walk-requires : goal.turn-walk-requires
 turn-walk-requires c =
     let m = written-bound c.loop-at.invariant.0 in
     let n = ended-bound c.loop-at.invariant.0 in
-    (room-there c.loop-at.walk c.loop-at.invariant.0 c.loop-at-test.true (c.bits_at-bits.result % 128) c.bits_at-bits.ensures.septet _ refl c.requires, (omega arith, (c.loop-at.invariant.0.narrow, (c.loop-at.invariant.0.spaced, (omega (arith, m, c.well_formed), omega (arith, n, c.well_formed))))))
+    record {
+      room = room-there c.loop-at.walk c.loop-at.invariant.0 c.loop-at-test.true (c.bits_at-bits.result % 128) c.bits_at-bits.ensures.septet _ refl c.requires;
+      bounds = (omega arith, (c.loop-at.invariant.0.narrow, (c.loop-at.invariant.0.spaced, (omega (arith, m, c.well_formed), omega (arith, n, c.well_formed)))));
+    }
 
 pub loop-at-smaller : goal.loop-at-smaller
 loop-at-smaller c = omega (arith, c.loop-at-test.true)
@@ -40,11 +43,3 @@ overflow_add-result c = let n = ended-bound c.loop-at.invariant.0 in omega (arit
 pub returns : goal.returns
 returns c =
     record { extent = rw (all-counted c.loop-at.invariant.0 c.loop-at-test.false, last-counted c.loop-at.invariant.0 c.loop-at-test.false) refl; text = all-written c.loop-at.invariant.0 c.loop-at-test.false; lines = c.put_line.ensures ∙ last_written c.loop-at.invariant.0 c.loop-at-test.false }
-
--- NEED? same-length
--- same_length : tie.Need-same-length invariant-loop decreases-loop
--- same_length c = c.before.before.before.before.before.before.loop.invariant.0.text_length
-
--- NEED? same-length-2
--- same-length-2 : tie.Need-same-length-2 invariant-loop decreases-loop
--- same-length-2 c = c.before.before.before.put-line.auto.0 ∙ c.before.before.before.before.before.before.loop.invariant.0.lines_length

@@ -12,8 +12,8 @@ returns-then-n-eq0 c = no-octets c.args.string.now c.if-n-eq0.true
 
 pub returns-then-string-n-ne13 : goal.returns-then-string-n-ne13
 returns-then-string-n-ne13 c =
-    no-pad c.args.string.now c.if-held-ne0.false c.if-n-eq0.false (c.shared_slice_known-1.given (length c.args.string.now - 1)).fits c.if-string-n-ne13.true
+    no-pad c.args.string.now c.if-held-ne0.false c.if-n-eq0.false (c.type_inv.string (length c.args.string.now - 1)).fits c.if-string-n-ne13.true
 
 pub returns : goal.returns
 returns c =
-    pad c.args.string.now c.if-held-ne0.false c.if-n-eq0.false (c.shared_slice_known-1.given (length c.args.string.now - 1)).fits c.if-string-n-ne13.false
+    pad c.args.string.now c.if-held-ne0.false c.if-n-eq0.false (c.type_inv.string (length c.args.string.now - 1)).fits c.if-string-n-ne13.false
