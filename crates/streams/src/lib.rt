@@ -3,7 +3,7 @@
 
 ghost use Rattle.std.specs.Prelude.{◌≤◌, length};
 
-use libc::{STDERR_FILENO, STDIN_FILENO};
+use std::io::{Print, Read};
 
 // How many octets were read, and whether a read failed: that is not the end of the input.
 #[derive(Clone, Copy)]
@@ -13,19 +13,17 @@ pub struct Got {
 }
 
 // Reads until the block is full or the input ends. A read may give less than was asked for.
-pub fn read_block(block: &mut [u8]) -> Got
+pub fn read_block(input: &mut impl Read, block: &mut [u8]) -> Got
     ensures { result.have ≤ length block.old }
 {
     let mut have = 0;
     while have < block.len() {
-        let got = libc::read(STDIN_FILENO, &mut block[have..]);
-        if got < 0 {
+        let Ok(n) = input.read(&mut block[have..]) else {
             return Got {
                 have: have,
                 is_failed: true,
             };
-        }
-        let n = io::count(got, &block[have..]);
+        };
         if n == 0 {
             break;
         }
@@ -37,15 +35,15 @@ pub fn read_block(block: &mut [u8]) -> Got
     }
 }
 
-pub fn input_failed() {
-    io::write_all(STDERR_FILENO, b"input failed\n");
+pub fn input_failed(errors: &impl Print) {
+    let _ = errors.write_all(b"input failed\n");
 }
 
 // Writes octets; whether that could be done.
-pub fn give(fd: i32, octets: &[u8]) -> bool {
-    if io::write_all(fd, octets) {
+pub fn give(output: &impl Print, errors: &impl Print, octets: &[u8]) -> bool {
+    if output.write_all(octets).is_ok() {
         return true;
     }
-    io::write_all(STDERR_FILENO, b"output failed\n");
+    let _ = errors.write_all(b"output failed\n");
     false
 }

@@ -20,4 +20,4 @@ make-requires c =
 
 pub returns : goal.returns
 returns c =
-    let a = c.args in lent a.command a.space.now _ (take a.held.room (replicate 300 0)) a.octets.now a.page.now _ a.held.size a.held.room _ (omega arith) (cleared-front a.held.room 300 (omega arith)) c.make.auto.0 c.make.ensures
+    let a = c.args in lent a.command a.space.now _ (take a.held.room (replicate 300 0)) a.octets.now a.page.now _ a.held.size a.held.room _ (omega arith) (cleared-front a.held.room 300 (omega arith)) c.make.auto.table c.make.ensures

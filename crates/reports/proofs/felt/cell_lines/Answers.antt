@@ -17,7 +17,7 @@ returns-then-not-there c =
 pub laid_lines-requires : goal.laid_lines-requires
 laid_lines-requires c =
     let f : c.smr_cells-laid.result.lines ≤ 9 = rw c.smr_cells-laid.ensures.returned (lines_fit c.args.scheme c.args.string.now (replicate 182 0) (replicate 18 0)) in
-    (omega (arith, c.smr_cells-laid.auto.1.1.0), (omega (arith, c.smr_cells-laid.auto.1.1.1.0), (f, c.requires)))
+    (omega (arith, c.smr_cells-laid.auto.text), (omega (arith, c.smr_cells-laid.auto.lines), (f, c.requires)))
 
 pub returns : goal.returns
 unfolding cell_lines

@@ -20,7 +20,7 @@ returns-then-laid-ne0 c =
 pub text_rows-requires : goal.text_rows-requires
 text_rows-requires c =
     let l = between-length 0 (2 * c.args.laid.lines) c.args.lines.now in
-    rw c.part.ensures.octets (omega (arith, l, c.requires, c.number_line-behind.ensures.1.1, c.number_line-behind.auto.0))
+    rw c.part.ensures.octets (omega (arith, l, c.requires, c.number_line-behind.ensures.1.1, c.number_line-behind.auto.page))
 
 pub returns : goal.returns
 returns c =

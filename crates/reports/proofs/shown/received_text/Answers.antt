@@ -11,19 +11,19 @@ use Rattle.reports.proofs.shown.received_text.Goals as goal
 
 pub written_line-g-requires : goal.written_line-g-requires
 written_line-g-requires c =
-    let l : length c.cause_line-f.new.0 ≡ length c.args.page.now = c.cause_line-f.auto.0 ∙ c.text_lines-e.auto.0 ∙ c.parameter_line-d.auto.0 ∙ c.number_lines-c.auto.0 ∙ c.kind_lines-b.auto.0 ∙ c.verdict_line-a.auto.0 in
+    let l : length c.cause_line-f.new.page ≡ length c.args.page.now = c.cause_line-f.auto.page ∙ c.text_lines-e.auto.page ∙ c.parameter_line-d.auto.page ∙ c.number_lines-c.auto.page ∙ c.kind_lines-b.auto.page ∙ c.verdict_line-a.auto.page in
     (omega arith, (c.requires.1.0, omega (arith, l, c.requires.1.1, c.verdict_line-a.ensures.1.1, c.kind_lines-b.ensures.1.1, c.number_lines-c.ensures.1.1, c.parameter_line-d.ensures.1.1, c.text_lines-e.ensures.1.1, c.cause_line-f.ensures.1.1)))
 
 pub put_words-requires : goal.put_words-requires
 put_words-requires c =
-    let l : length c.written_line-g.new.0 ≡ length c.args.page.now = c.written_line-g.auto.0 ∙ c.cause_line-f.auto.0 ∙ c.text_lines-e.auto.0 ∙ c.parameter_line-d.auto.0 ∙ c.number_lines-c.auto.0 ∙ c.kind_lines-b.auto.0 ∙ c.verdict_line-a.auto.0 in
+    let l : length c.written_line-g.new.page ≡ length c.args.page.now = c.written_line-g.auto.page ∙ c.cause_line-f.auto.page ∙ c.text_lines-e.auto.page ∙ c.parameter_line-d.auto.page ∙ c.number_lines-c.auto.page ∙ c.kind_lines-b.auto.page ∙ c.verdict_line-a.auto.page in
     omega (arith, l, c.requires.1.1, c.verdict_line-a.ensures.1.1, c.kind_lines-b.ensures.1.1, c.number_lines-c.ensures.1.1, c.parameter_line-d.ensures.1.1, c.text_lines-e.ensures.1.1, c.cause_line-f.ensures.1.1, c.written_line-g.ensures.1.1)
 
 pub returns : goal.returns
 unfolding received_text
 returns c =
     let a = c.args in
-    let l : length c.written_line-g.new.0 ≡ length a.page.now = c.written_line-g.auto.0 ∙ c.cause_line-f.auto.0 ∙ c.text_lines-e.auto.0 ∙ c.parameter_line-d.auto.0 ∙ c.number_lines-c.auto.0 ∙ c.kind_lines-b.auto.0 ∙ c.verdict_line-a.auto.0 in
+    let l : length c.written_line-g.new.page ≡ length a.page.now = c.written_line-g.auto.page ∙ c.cause_line-f.auto.page ∙ c.text_lines-e.auto.page ∙ c.parameter_line-d.auto.page ∙ c.number_lines-c.auto.page ∙ c.kind_lines-b.auto.page ∙ c.verdict_line-a.auto.page in
     let b : c.put_words.result ≤ 70000 = omega (arith, c.put_words.ensures.1, c.verdict_line-a.ensures.1.1, c.kind_lines-b.ensures.1.1, c.number_lines-c.ensures.1.1, c.parameter_line-d.ensures.1.1, c.text_lines-e.ensures.1.1, c.cause_line-f.ensures.1.1, c.written_line-g.ensures.1.1) in
     let h : c.put_words.result ≤ length a.page.now = omega (arith, b, c.requires.1.1) in
     let i = four a.page.now 0
@@ -51,5 +51,5 @@ returns c =
 --     let t = c.before.before.before.before.before.before.before.before.before.before.before.before.before.before.before.before.text-lines in
 --     let u = c.before.before.before.before.before.before.before.before.before.before.before.before.cause-line in
 --     let w = c.before.before.before.before.before.before.before.written-line in
---     let l : length w.new.0 ≡ length c.before.before.before.before.before.before.before.before.before.before.before.before.before.before.before.before.before.before.before.before.before.before.before.before.before.before.before.before.before.before.before.before.before.before.before.before.before.before.before.before.args.page.now = w.auto.0 ∙ u.auto.0 ∙ t.auto.0 ∙ p.auto.0 ∙ n.auto.0 ∙ k.auto.0 ∙ v.auto.0 in
---     c.before.before.put-words.auto.0 ∙ l
+--     let l : length w.new.page ≡ length c.before.before.before.before.before.before.before.before.before.before.before.before.before.before.before.before.before.before.before.before.before.before.before.before.before.before.before.before.before.before.before.before.before.before.before.before.before.before.before.before.args.page.now = w.auto.page ∙ u.auto.page ∙ t.auto.page ∙ p.auto.page ∙ n.auto.page ∙ k.auto.page ∙ v.auto.page in
+--     c.before.before.put-words.auto.page ∙ l

@@ -11,7 +11,7 @@ use Rattle.reports.proofs.RowLaws.{four}
 use Rattle.reports.proofs.shown.text_lines.Goals as goal
 
 pub octets_line-requires : goal.octets_line-requires
-octets_line-requires c = (omega arith, omega (arith, c.part_of-3.ensures.within, c.cell_lines-c.ensures.1.1, c.cell_lines-c.auto.0, c.octets_line-b.ensures.1.1, c.octets_line-b.auto.0, c.part_of.ensures.within, c.octets_line-a.ensures.1.1, c.octets_line-a.auto.0, c.requires))
+octets_line-requires c = (omega arith, omega (arith, c.part_of-3.ensures.within, c.cell_lines-c.ensures.1.1, c.cell_lines-c.auto.page, c.octets_line-b.ensures.1.1, c.octets_line-b.auto.page, c.part_of.ensures.within, c.octets_line-a.ensures.1.1, c.octets_line-a.auto.page, c.requires))
 
 pub returns : goal.returns
 unfolding text_lines

@@ -21,7 +21,7 @@ loop-k-preserved c =
     let m : c.slot_text-place.result ≤ a.at + 1328 * (c.loop-k.k + 1) = omega (arith, c.loop-k.invariant.1.1.1.1, c.slot_text-place.ensures.1.1) in
     let j = join a.page.now a.at (slot_lines c.loop-k.k a.output.now) (slot_text (drop (14 * c.loop-k.k) a.output.now))
     _ _ _ _ (omega (arith, m, c.loop-k-test.true, c.requires)) (c.loop-k.invariant.1.1.0, c.loop-k.invariant.1.1.1.0) (c.slot_text-place.ensures.0, c.slot_text-place.ensures.1.0) in
-    rw (← one_more_lem c.loop-k.k a.output.now) (omega arith, (c.slot_text-place.auto.0 ∙ c.loop-k.invariant.1.0, (j.0, (j.1, m))))
+    rw (← one_more_lem c.loop-k.k a.output.now) (omega arith, (c.slot_text-place.auto.page ∙ c.loop-k.invariant.1.0, (j.0, (j.1, m))))
 
 pub returns : goal.returns
 returns c =
