@@ -1,6 +1,6 @@
 -- Every line has at most forty characters.
 use Prim.Native.Nat.{ℕ, zero, suc, ◌+◌, ◌*◌, ◌/◌, ◌%◌, ◌≤◌, ◌<◌}
-use mathlib.Core.Path.{◌≡◌, refl, sym, ap, ◌∙◌}
+use mathlib.Core.Path.{◌≡◌, refl}
 use mathlib.Core.List.{List, [], ◌∷◌, ◌++◌}
 use mathlib.Core.Bool.{Bool, true, false, cond}
 use native.Mathlib.Omega.{arith}
@@ -15,9 +15,9 @@ use Rattle.printing.specs.Forty.{forty, forty_from, plain}
 use Rattle.printing.proofs.FortyLaws.{forty-append, plain-line, plain-append, twenty, octets-forty}
 use Rattle.trace.specs.Records.{Record}
 use Rattle.trace.proofs.FaultLaws.{at-faults}
-use Rattle.trace.specs.Blocks.{records_at, fault_of}
+use Rattle.trace.specs.Blocks.{records_at}
 use Rattle.trace.specs.Salvage.{Listed, dropped, renumbered36, short}
-use Rattle.trace_lines.specs.Shown.{received, sent, word_of, four_line, block_word, refused_word, record_line, record_lines, refused_line, text_by, block_text, bad_line}
+use Rattle.trace_lines.specs.Shown.{received, sent, four_line, block_word, refused_word, record_line, record_lines, refused_line, text_by, block_text, bad_line}
 use Rattle.trace_lines.specs.Listed.{number_word, place_word, dropped_word, renumbered_word, listed_line}
 
 -- a number below a power of ten has no more digits

@@ -2,25 +2,24 @@
 use Prim.Native.Nat.{ℕ, ◌+◌, ◌-◌, ◌≤◌, ◌<◌}
 use mathlib.Core.Path.{◌≡◌, refl, sym, ap, ◌∙◌}
 use mathlib.Core.List.{List, [], ◌∷◌, ◌++◌}
-use mathlib.Core.Option.{Option, none, some}
-use mathlib.Core.Bool.{Bool, true, false, cond, not}
+use mathlib.Core.Option.{none}
+use mathlib.Core.Bool.{true, false}
 use native.Mathlib.Omega.{arith}
 use lib.ListN.{length, take, drop, get_or, length-append}
 use lib.Seq.{take_at, length-take-le, take-nil, drop-nil}
-use lib.Dec.{eqb, leb}
+use lib.Dec.{eqb}
 use borrow.Author.Tests.{eq-eqb, ne_eqb, le-leb, lt-leb}
 use Rattle.octets.specs.Splice.{splice}
-use Rattle.octets.specs.Reader.{is_empty}
 use Rattle.octets.proofs.SpliceLaws.{splice_front}
 use Rattle.words.specs.Words.{blank, word_at, spelled, same}
 use Rattle.words.specs.Commands.{passed_over}
-use Rattle.words.specs.Hex.{HexOctets, hex}
+use Rattle.words.specs.Hex.{hex}
 use Rattle.words.specs.declared.Word.{Word}
 use Rattle.words.specs.declared.Ending.{Ending}
 use Rattle.words.specs.declared.Ending.TheVariants.{Whole, Wrong, Long}
 use Rattle.trace_lines.specs.Shown.{received, sent}
-use Rattle.trace_lines.specs.Told.{Begun, grown, or_refuses, Next, goes, refuses, kind_of, kind_by}
-use Rattle.trace_lines.specs.Desk.{join_seen, Joins}
+use Rattle.trace_lines.specs.Told.{Begun, grown, kind_of, kind_by}
+use Rattle.trace_lines.specs.Desk.{join_seen}
 use Rattle.trace_lines.specs.declared.told.Kind.{Kind}
 use Rattle.trace_lines.specs.declared.told.Kind.TheVariants.{Passed, Onward, First, Other}
 

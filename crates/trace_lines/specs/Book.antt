@@ -1,5 +1,5 @@
 -- The writer over lines: a record that ends is written; a bad one ends the writing, and the line on which it begins is told.
-use Rattle.std.specs.Prelude.{ℕ, List, Bool, true, false, cond, eqb}
+use Rattle.std.specs.Prelude.{ℕ, List, true, false, eqb}
 use Rattle.std.proofs.Math.Option.{Option, none, some}
 use Rattle.octets.specs.Unless.{unless}
 use Rattle.trace.specs.Steps.{wrote, holds, hands_over}

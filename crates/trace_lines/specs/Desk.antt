@@ -1,5 +1,5 @@
 -- What the code's state says of the record that is begun.
-use Rattle.std.specs.Prelude.{ℕ, ◌≤◌, ◌≡◌, List, Bool, cond, length, take, eqb, leb}
+use Rattle.std.specs.Prelude.{ℕ, ◌≤◌, ◌≡◌, List, Bool, cond, take, eqb, leb}
 use Rattle.std.proofs.Math.Option.{Option, none, some}
 use Rattle.trace_lines.specs.Told.{Begun, grown, Next, goes, refuses}
 use Rattle.trace_lines.specs.declared.told.Pen.{Pen}

@@ -1,13 +1,13 @@
 -- C23: "`received HEX` or `sent HEX` .. The reader prints the word and the octets as the bench prints octets, going on in lines that
 -- start with a space."
-use Rattle.std.specs.Prelude.{ℕ, List, [], ◌∷◌, ◌++◌, Bool, cond, not, eqb}
+use Rattle.std.specs.Prelude.{ℕ, List, [], ◌∷◌, ◌++◌, cond, eqb}
 use Rattle.std.proofs.Math.Option.{Option, none, some}
 use Rattle.octets.specs.Reader.{Answer, fault, sound}
 use Rattle.printing.specs.Numbers.{decimal}
 use Rattle.printing.specs.Lines.{octets_line}
-use Rattle.trace.specs.Records.{Record, records_in}
-use Rattle.trace.specs.Blocks.{records_at, fault_of}
-use Rattle.trace.specs.Files.{Refusal, Reading, read_file}
+use Rattle.trace.specs.Records.{Record}
+use Rattle.trace.specs.Blocks.{records_at}
+use Rattle.trace.specs.Files.{Refusal, read_file}
 
 -- `received`, `sent`
 abbrev pub received : List ℕ

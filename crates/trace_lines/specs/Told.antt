@@ -4,7 +4,7 @@ use Rattle.std.specs.Prelude.{ℕ, suc, ◌+◌, List, [], ◌∷◌, ◌++◌, 
 use Rattle.std.proofs.Math.Option.{Option, none, some}
 use Rattle.words.specs.Words.{blank, word_at, spelled, same}
 use Rattle.words.specs.Commands.{passed_over}
-use Rattle.words.specs.Hex.{HexOctets, hex}
+use Rattle.words.specs.Hex.{hex}
 use Rattle.words.specs.Lines.{longest}
 use Rattle.words.specs.declared.Ending.{Ending}
 use Rattle.words.specs.declared.Ending.TheVariants.{Whole, Wrong, Long}

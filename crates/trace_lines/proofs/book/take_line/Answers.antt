@@ -2,8 +2,7 @@ use Rattle.trace_lines.proofs.TurnLaws.{pen-refused, turn-refused, turn-goes}
 use Rattle.trace_lines.specs.Book.{book_after, held_after, full_after}
 use Rattle.trace_lines.specs.Desk.{kept_if, pen_seen}
 use Rattle.trace_lines.specs.Told.{ends, followed, kind_if}
-use mathlib.Core.Path.{◌≡◌, refl, sym, ◌∙◌, ap}
-use borrow.Author.Rules.{rules}
+use mathlib.Core.Path.{◌∙◌, ap}
 use Rattle.trace_lines.proofs.book.take_line.Goals as goal
 
 pub returns-then-book-ne0 : goal.returns-then-book-ne0

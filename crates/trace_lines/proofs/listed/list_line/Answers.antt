@@ -2,8 +2,7 @@ use Rattle.trace_lines.proofs.ShownLaws.{one-listed, none-listed, fills}
 use Rattle.trace_lines.specs.Listed.{listed_line}
 use Rattle.printing.proofs.JoinLaws.{nothing}
 use native.Mathlib.Omega.{arith}
-use mathlib.Core.Path.{◌≡◌, refl, sym, ◌∙◌, ap}
-use borrow.Author.Rules.{rules}
+use mathlib.Core.Path.{refl}
 use Rattle.trace_lines.proofs.listed.list_line.Goals as goal
 
 pub returns-in-Kept : goal.returns-in-Kept

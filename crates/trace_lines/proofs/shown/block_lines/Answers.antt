@@ -1,15 +1,11 @@
 use lib.ListN.{length}
 use Rattle.trace_lines.proofs.ShownLaws.{part-fits}
-use Rattle.trace_lines.proofs.ShownLaws.{text-refused, text-sound, is-told, fills, lines_at}
-use Rattle.trace.specs.Records.{records_in}
-use Rattle.trace.proofs.BlockLaws.{record-length}
+use Rattle.trace_lines.proofs.ShownLaws.{text-refused, text-sound, is-told, fills}
 use Rattle.trace.proofs.FaultLaws.{at-sound}
-use Rattle.trace.specs.Seen.{is_sound}
-use Rattle.trace.specs.Blocks.{record_part}
 use native.Mathlib.Omega.{arith}
 use lib.Dec.{eqb}
 use mathlib.Core.Bool.{not}
-use mathlib.Core.Path.{◌≡◌, refl, sym, ◌∙◌, ap}
+use mathlib.Core.Path.{◌≡◌, sym, ◌∙◌, ap}
 use borrow.Author.Rules.{rules}
 use Rattle.trace_lines.proofs.shown.block_lines.Goals as goal
 

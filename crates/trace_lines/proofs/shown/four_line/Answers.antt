@@ -1,6 +1,5 @@
 use Rattle.trace_lines.proofs.ShownLaws.{four-put}
 use native.Mathlib.Omega.{arith}
-use borrow.Author.Rules.{rules}
 use Rattle.trace_lines.proofs.shown.four_line.Goals as goal
 
 pub returns : goal.returns

@@ -1,5 +1,4 @@
 use borrow.Author.Tests.{eq-eqb, ne_eqb}
-use borrow.Author.Rules.{rules}
 use Rattle.trace_lines.proofs.shown.record_line.Goals as goal
 
 pub returns-then-direction-eq0 : goal.returns-then-direction-eq0

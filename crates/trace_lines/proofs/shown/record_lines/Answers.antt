@@ -1,19 +1,13 @@
 use Rattle.octets.proofs.PartLaws.{length-between}
 use Rattle.trace_lines.proofs.ShownLaws.{lines_at, at_length, at-step, at_none, not-bad, part-behind}
-use Rattle.trace_lines.specs.Shown.{record_line}
 use Rattle.trace.proofs.RecordLaws.{sound-step}
-use Rattle.trace.specs.Seen.{is_sound}
-use Rattle.trace.specs.Records.{records_in}
 use Rattle.printing.proofs.JoinLaws.{piece, ended}
 use Rattle.octets.proofs.PartLaws.{rest_part_lem}
-use Rattle.octets.specs.Splice.{splice}
 use lib.Seq.{drop-drop}
-use lib.ListN.{length, drop, length-drop}
-use Prim.Native.Nat.{◌+◌, ◌*◌, ◌≤◌, ◌-◌}
-use mathlib.Core.Bool.{true}
-use mathlib.Core.Path.{◌≡◌, refl, sym, ◌∙◌, ap}
+use lib.ListN.{drop, length-drop}
+use Prim.Native.Nat.{◌+◌}
+use mathlib.Core.Path.{refl, sym, ◌∙◌}
 use native.Mathlib.Omega.{arith}
-use borrow.Author.Rules.{rules}
 use Rattle.trace_lines.proofs.shown.record_lines.Goals as goal
 
 pub loop-i-init : goal.loop-i-init
@@ -69,9 +63,9 @@ loop-i-preserved c =
     let q = rw (part-behind c.loop-i.i 2 c.in-Whole.end c.args.s.now) at c.record_line-at.ensures.0 in
     let k = rw (part-behind c.loop-i.i 2 c.in-Whole.end c.args.s.now) at c.record_line-at.ensures.1.0 in
     let f = at-step (drop c.loop-i.i c.args.s.now) _ (sym e) c.loop-i.invariant.1.1.1.0 in
-    let t = piece c.loop-i.page c.loop-i.at (lines_at (drop c.loop-i.i c.args.s.now)) _ _ c.record_line-at.new.0 c.record_line-at.result f (omega (arith, c.requires.1)) (q, k) in
+    let t = piece c.loop-i.page c.loop-i.at (lines_at (drop c.loop-i.i c.args.s.now)) _ _ c.record_line-at.new.page c.record_line-at.result f (omega (arith, c.requires.1)) (q, k) in
     rw (← drop-drop c.in-Whole.end c.loop-i.i c.args.s.now)
-    (omega arith, (omega (arith, m, c.record_line-at.ensures.1.1), (c.record_line-at.auto.0 ∙ c.loop-i.invariant.1.1.0, (sound-step (drop c.loop-i.i c.args.s.now) _ (sym e) ∙ c.loop-i.invariant.1.1.1.0, (t.0 ∙ c.loop-i.invariant.1.1.1.1.0, t.1 ∙ c.loop-i.invariant.1.1.1.1.1)))))
+    (omega arith, (omega (arith, m, c.record_line-at.ensures.1.1), (c.record_line-at.auto.page ∙ c.loop-i.invariant.1.1.0, (sound-step (drop c.loop-i.i c.args.s.now) _ (sym e) ∙ c.loop-i.invariant.1.1.1.0, (t.0 ∙ c.loop-i.invariant.1.1.1.1.0, t.1 ∙ c.loop-i.invariant.1.1.1.1.1)))))
 
 pub returns : goal.returns
 returns c =

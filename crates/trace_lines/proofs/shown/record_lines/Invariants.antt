@@ -1,19 +1,11 @@
-use Rattle.octets.proofs.PartLaws.{length-between}
-use Rattle.trace_lines.proofs.ShownLaws.{lines_at, at_length, at-step, at_none, not-bad, part-behind}
-use Rattle.trace_lines.specs.Shown.{record_line}
-use Rattle.trace.proofs.RecordLaws.{sound-step}
+use Rattle.trace_lines.proofs.ShownLaws.{lines_at}
 use Rattle.trace.specs.Seen.{is_sound}
 use Rattle.trace.specs.Records.{records_in}
-use Rattle.printing.proofs.JoinLaws.{piece, ended}
-use Rattle.octets.proofs.PartLaws.{rest_part_lem}
 use Rattle.octets.specs.Splice.{splice}
-use lib.Seq.{drop-drop}
-use lib.ListN.{length, drop, length-drop}
+use lib.ListN.{length, drop}
 use Prim.Native.Nat.{◌+◌, ◌*◌, ◌≤◌, ◌-◌}
 use mathlib.Core.Bool.{true}
-use mathlib.Core.Path.{◌≡◌, refl, sym, ◌∙◌, ap}
-use native.Mathlib.Omega.{arith}
-use borrow.Author.Rules.{rules}
+use mathlib.Core.Path.{◌≡◌}
 use Rattle.trace_lines.proofs.shown.record_lines.Given as goal
 
 abbrev pub invariant-loop-i : goal.invariant-loop-i

@@ -2,7 +2,6 @@ use Rattle.trace_lines.proofs.ShownLaws.{fills}
 use Rattle.trace_lines.specs.Shown.{bad_line}
 use mathlib.Core.Path.{refl}
 use native.Mathlib.Omega.{arith}
-use borrow.Author.Rules.{rules}
 use Rattle.trace_lines.proofs.shown.refused_at.Goals as goal
 
 pub returns : goal.returns

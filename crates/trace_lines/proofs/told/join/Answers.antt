@@ -1,8 +1,7 @@
 use lib.Seq.{length-take-le}
-use lib.ListN.{length}
 use Rattle.trace_lines.proofs.ToldLaws.{joins-wrong, joins_long, joins-over, joins-whole}
 use native.Mathlib.Omega.{arith}
-use mathlib.Core.Path.{◌≡◌, refl, sym, ◌∙◌, ap}
+use mathlib.Core.Path.{refl, sym}
 use borrow.Author.Rules.{rules}
 use Rattle.trace_lines.proofs.told.join.Goals as goal
 
@@ -17,11 +16,11 @@ returns-then-count-row-gt255 c =
     let a = c.args in ((λ b q. joins-over a.text.now a.count _ a.message.now c.requires.1 c.requires.0 _ c.read_hex-row.ensures.1.0 c.in-Whole.is c.read_hex-row.ensures.0 b q c.if-count-row-gt255.true), omega arith)
 
 pub slice_bounds-put-end : goal.slice_bounds-put-end
-slice_bounds-put-end c = sym (length-take-le _ c.read_hex-row.new.1.0 (search rules))
+slice_bounds-put-end c = sym (length-take-le _ c.read_hex-row.new.buffer (search rules))
 
 pub put-requires : goal.put-requires
 put-requires c =
-    let z = length-take-le c.read_hex-row.result.count c.read_hex-row.new.1.0 (search rules) in
+    let z = length-take-le c.read_hex-row.result.count c.read_hex-row.new.buffer (search rules) in
     omega (arith, z, c.if-count-row-gt255.false, c.requires.1)
 
 pub returns : goal.returns

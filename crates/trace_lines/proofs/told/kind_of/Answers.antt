@@ -1,8 +1,6 @@
 use Rattle.trace_lines.proofs.ToldLaws.{some-octet}
 use Rattle.trace_lines.proofs.ToldLaws.{empty-line, comment-line, onward-line, received-line, sent-line, other-line}
-use native.Mathlib.Omega.{arith}
-use mathlib.Core.Path.{◌≡◌, refl, sym, ◌∙◌, ap}
-use borrow.Author.Rules.{rules}
+use mathlib.Core.Path.{sym, ◌∙◌}
 use Rattle.trace_lines.proofs.told.kind_of.Goals as goal
 
 pub returns-then-word-eq0 : goal.returns-then-word-eq0

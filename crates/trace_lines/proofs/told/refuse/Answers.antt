@@ -1,6 +1,5 @@
 use borrow.Author.Tests.{ne_eqb}
 use native.Mathlib.Omega.{arith}
-use mathlib.Core.Path.{◌≡◌}
 use Rattle.trace_lines.proofs.told.refuse.Goals as goal
 
 pub returns : goal.returns
