@@ -1,6 +1,6 @@
 -- "What the two build is what the writer builds": the loop that include/smrcholet.h tells, over what the two calls promise, and the
 -- writer's own steps, each give the blocks of the records.
-use Rattle.std.specs.Prelude.{ℕ, suc, ◌+◌, ◌%◌, ◌≡◌, List, [], ◌∷◌, Bool, true, false, cond, length, eqb}
+use Rattle.std.specs.Prelude.{ℕ, suc, ◌%◌, ◌≡◌, List, [], ◌∷◌, Bool, true, false, cond, length, eqb}
 use Rattle.octets.specs.Unless.{unless}
 use Rattle.trace.specs.Records.{Record, Good, good_record}
 use Rattle.trace.specs.Blocks.{zeros}

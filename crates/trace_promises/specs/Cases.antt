@@ -3,10 +3,10 @@ use Rattle.std.specs.Prelude.{ℕ, ◌+◌, ◌≡◌, List, [], ◌∷◌, ◌+
 use Rattle.std.proofs.Math.Option.{none, some}
 use Rattle.trace.specs.Numbers.{two}
 use Rattle.trace.specs.Records.{Record, records_of}
-use Rattle.trace.specs.Blocks.{zeros, sum_in, sealed, block_of}
-use Rattle.trace.specs.Files.{Refusal, Reading, read_file}
+use Rattle.trace.specs.Blocks.{zeros, sum_in, block_of}
+use Rattle.trace.specs.Files.{Reading, read_file}
 use Rattle.trace.specs.Writing.{packed}
-use Rattle.trace.specs.Salvage.{dropped, renumbered36, short, salvaged, Salvaged}
+use Rattle.trace.specs.Salvage.{dropped, renumbered36, short, salvaged}
 
 -- "W1 as the one received record of a file is one block: 00 00 00 00, 00 16, 00 14, the twenty octets of W1, 482 zeros, 02 22."
 abbrev pub w1 : List ℕ

@@ -1,12 +1,12 @@
 -- Salvage: "A whole file comes out identical with an empty list"; "what comes out is read without refusal, holds the records of the
 -- sound blocks in order, and salvage of it changes nothing"; each block is kept or listed, a renumbered one both.
-use Rattle.std.specs.Prelude.{ℕ, suc, ◌+◌, ◌≡◌, List, [], ◌∷◌, ◌++◌, cond, length, eqb}
+use Rattle.std.specs.Prelude.{ℕ, suc, ◌≡◌, List, [], ◌∷◌, ◌++◌, cond, length, eqb}
 use Rattle.std.proofs.Math.Option.{none}
 use Rattle.octets.specs.Reader.{Answer, fault, sound}
 use Rattle.trace.specs.Records.{Record}
 use Rattle.trace.specs.Blocks.{number_in, block_records, records_or}
-use Rattle.trace.specs.Files.{Reading, blocks_in, read_file}
-use Rattle.trace.specs.Salvage.{Listed, dropped, renumbered36, short, Salvaged, renumbered, salvaged, mended_file}
+use Rattle.trace.specs.Files.{blocks_in, read_file}
+use Rattle.trace.specs.Salvage.{dropped, renumbered36, short, Salvaged, renumbered, salvaged, mended_file}
 use Rattle.trace_promises.specs.Blocks.{Numbered}
 
 abbrev pub WholeStays : Type 0

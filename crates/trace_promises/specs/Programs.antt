@@ -1,5 +1,5 @@
 -- What the programs' loops make of the functions that they call: block by block, or line by line, as src/main.rt has them.
-use Rattle.std.specs.Prelude.{ℕ, suc, ◌≤◌, ◌≡◌, List, [], ◌∷◌, ◌++◌, Bool, false, cond, eqb}
+use Rattle.std.specs.Prelude.{ℕ, suc, ◌≡◌, List, [], ◌∷◌, ◌++◌, Bool, false, cond, eqb}
 use Rattle.std.proofs.Math.Option.{Option, none, some}
 use Rattle.trace.specs.Blocks.{zeros, records_at, fault_of}
 use Rattle.trace.specs.Files.{blocks_in, joined}
@@ -8,7 +8,7 @@ use Rattle.trace.specs.Salvage.{fate_of, listed_by, mended_file}
 use Rattle.trace.specs.Seen.{mended, is_kept}
 use Rattle.trace_lines.specs.Shown.{block_text, reader_text}
 use Rattle.trace_lines.specs.Listed.{listed_lines, salvage_text}
-use Rattle.trace_lines.specs.Told.{Begun, Next, goes, refuses, line_kind, Told, told}
+use Rattle.trace_lines.specs.Told.{Begun, Next, goes, refuses, line_kind, told}
 use Rattle.trace_lines.specs.Book.{book_after, held_after, full_after, settled, next_by, book_by}
 use Rattle.trace_lines.specs.declared.book.Book.{Book}
 

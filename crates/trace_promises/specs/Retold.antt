@@ -4,7 +4,7 @@ use Rattle.std.proofs.Math.Option.{none}
 use Rattle.octets.specs.Octets.{Octets}
 use Rattle.trace.specs.Records.{Record, Good}
 use Rattle.trace_lines.specs.Shown.{record_lines}
-use Rattle.trace_lines.specs.Told.{Told, told}
+use Rattle.trace_lines.specs.Told.{told}
 
 -- lines end at 10; "the last line may lack its line feed"
 abbrev pub into_first : ℕ → List (List ℕ) → List (List ℕ)

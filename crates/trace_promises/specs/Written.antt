@@ -1,8 +1,8 @@
 -- What the writer writes the reader reads, record for record; and it opens a block only when a record doesn't fit.
-use Rattle.std.specs.Prelude.{ℕ, ◌≤◌, ◌≡◌, List, [], ◌∷◌, ◌++◌, true, false, length}
+use Rattle.std.specs.Prelude.{◌≤◌, ◌≡◌, List, [], ◌∷◌, ◌++◌, false, length}
 use Rattle.std.proofs.Math.Option.{none}
 use Rattle.trace.specs.Records.{Record, Good, records_of}
-use Rattle.trace.specs.Files.{Reading, read_file}
+use Rattle.trace.specs.Files.{read_file}
 use Rattle.trace.specs.Writing.{fits, packed, file_of}
 
 -- 02, C38: "The laws of C23 and C37 are for fewer blocks": four octets hold the number of each
