@@ -41,8 +41,8 @@ slice_bounds-record_line-end c =
 pub record_line-at-requires : goal.record_line-at-requires
 record_line-at-requires c =
     let w = simp length-drop at (rw (c.in-Whole.is, rest_part_lem c.loop-i.i c.args.s.now) at c.read_traced.ensures.1) in
-    let m = length-between (c.loop-i.i + 2) (c.loop-i.i + c.in-Whole.end) c.args.s.now (omega arith) in
-    omega (arith, m, c.requires.1)
+    let long = length-between (c.loop-i.i + 2) (c.loop-i.i + c.in-Whole.end) c.args.s.now (omega arith) in
+    omega (arith, long, c.requires.1)
 
 pub overflow_add-i-in-loop-i-2 : goal.overflow_add-i-in-loop-i-2
 overflow_add-i-in-loop-i-2 c =
