@@ -4,7 +4,7 @@
 ghost use Rattle.std.specs.Prelude.{◌≤◌};
 
 use answers::answer::{Held, answer_line};
-use libc::{STDIN_FILENO, STDOUT_FILENO};
+use std::io::{Print, Read};
 use words::lines::{counted, gather};
 
 // So much of a line is there, so many lines were before it; how long the table and the reply buffer are.
@@ -16,8 +16,14 @@ struct Bench {
     room: usize,
 }
 
-// Answers a line.
-fn say(line: &[u8; 16384], space: &mut [u8; 300], page: &mut [u8; 70000], bench: Bench) -> Bench
+// Answers a line. A write that fails is passed over.
+fn say(
+    output: &impl Print,
+    line: &[u8; 16384],
+    space: &mut [u8; 300],
+    page: &mut [u8; 70000],
+    bench: Bench,
+) -> Bench
     requires { (bench.have ≤ 16385) × ((bench.size ≤ 300) × (bench.room ≤ 300)) }
     ensures { (result.have ≤ 16385) × ((result.size ≤ 300) × (result.room ≤ 300)) }
 {
@@ -29,7 +35,7 @@ fn say(line: &[u8; 16384], space: &mut [u8; 300], page: &mut [u8; 70000], bench:
     };
     let next = answer_line(line, bench.have, number, space, held, page);
     let written = next.written;
-    io::write_all(STDOUT_FILENO, octets::part(page, 0, written));
+    let _ = output.write_all(octets::part(page, 0, written));
     Bench {
         have: 0,
         number: number,
@@ -40,6 +46,7 @@ fn say(line: &[u8; 16384], space: &mut [u8; 300], page: &mut [u8; 70000], bench:
 
 // Answers each line that ends in a piece of the input; what is left of it is the start of the next line.
 fn serve(
+    output: &impl Print,
     input: &[u8],
     line: &mut [u8; 16384],
     space: &mut [u8; 300],
@@ -56,7 +63,7 @@ fn serve(
         at = more.next;
         state.have = more.have;
         if more.is_whole {
-            state = say(line, space, page, state);
+            state = say(output, line, space, page, state);
         }
     }
     state
@@ -64,11 +71,13 @@ fn serve(
 
 // A proved loop has to end, and nothing says that the input does: so the turns are counted down, from a number that no
 // run uses up.
-fn main() {
+fn main(rt: HostRuntime) {
+    let mut input = rt.stdin();
+    let output = rt.stdout();
     let mut space = [0u8; 300];
     let mut line = [0u8; 16384];
     let mut page = [0u8; 70000];
-    let mut input = [0u8; 4096];
+    let mut piece = [0u8; 4096];
     let mut state = Bench {
         have: 0,
         number: 0,
@@ -78,14 +87,22 @@ fn main() {
     let mut turns = u64::MAX;
     while turns > 0 {
         turns -= 1;
-        let got = libc::read(STDIN_FILENO, &mut input);
-        let n = io::count(got, &input);
+        let Ok(n) = input.read(&mut piece) else {
+            break;
+        };
         if n == 0 {
             break;
         }
-        state = serve(&input[..n], &mut line, &mut space, &mut page, state);
+        state = serve(
+            &output,
+            &piece[..n],
+            &mut line,
+            &mut space,
+            &mut page,
+            state,
+        );
     }
     if state.have > 0 {
-        say(&line, &mut space, &mut page, state);
+        say(&output, &line, &mut space, &mut page, state);
     }
 }

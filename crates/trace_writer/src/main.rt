@@ -4,7 +4,7 @@
 ghost use Rattle.std.specs.Prelude.{◌≤◌, length, ◌≡◌};
 ghost use Rattle.trace_lines.specs.Desk.{Ready};
 
-use libc::{STDERR_FILENO, STDIN_FILENO, STDOUT_FILENO};
+use std::io::{Print, Read};
 use streams::{give, input_failed};
 use trace_lines::book::{Book, Turn, finish, take_line};
 use trace_lines::shown::refused_at;
@@ -28,15 +28,17 @@ fn is_going(desk: Desk) -> bool {
 }
 
 // Writes the block that was handed over, if one was; whether that could be done.
-fn hand_over(full: &[u8; 512], is_full: bool) -> bool {
+fn hand_over(output: &impl Print, errors: &impl Print, full: &[u8; 512], is_full: bool) -> bool {
     if is_full {
-        return give(STDOUT_FILENO, full);
+        return give(output, errors, full);
     }
     true
 }
 
 // Takes the line that is there.
 fn take(
+    output: &impl Print,
+    errors: &impl Print,
     line: &[u8; 16384],
     message: &mut [u8],
     held: &mut [u8; 512],
@@ -58,7 +60,7 @@ fn take(
         desk.turn,
     );
     let book = turn.book;
-    let given = hand_over(full, book.is_full);
+    let given = hand_over(output, errors, full, book.is_full);
     Desk {
         have: 0,
         number: number,
@@ -69,6 +71,8 @@ fn take(
 
 // Takes each line that ends in a piece of the input; what is left of it is the start of the next line.
 fn serve(
+    output: &impl Print,
+    errors: &impl Print,
     input: &[u8],
     line: &mut [u8; 16384],
     message: &mut [u8],
@@ -86,7 +90,7 @@ fn serve(
         at = more.next;
         state.have = more.have;
         if more.is_whole {
-            state = take(line, message, held, full, state);
+            state = take(output, errors, line, message, held, full, state);
             if !is_going(state) {
                 break;
             }
@@ -97,6 +101,8 @@ fn serve(
 
 // The last line may lack its line feed.
 fn last_line(
+    output: &impl Print,
+    errors: &impl Print,
     line: &[u8; 16384],
     message: &mut [u8],
     held: &mut [u8; 512],
@@ -107,13 +113,20 @@ fn last_line(
     ensures { Ready result.turn.pen }
 {
     if is_going(desk) & (desk.have > 0) {
-        return take(line, message, held, full, desk);
+        return take(output, errors, line, message, held, full, desk);
     }
     desk
 }
 
 // The record that is begun where the input ends.
-fn close(message: &[u8], held: &mut [u8; 512], full: &mut [u8; 512], desk: Desk) -> Desk
+fn close(
+    output: &impl Print,
+    errors: &impl Print,
+    message: &[u8],
+    held: &mut [u8; 512],
+    full: &mut [u8; 512],
+    desk: Desk,
+) -> Desk
     requires { desk.turn.pen.count ≤ length message.now }
 {
     if !is_going(desk) {
@@ -122,7 +135,7 @@ fn close(message: &[u8], held: &mut [u8; 512], full: &mut [u8; 512], desk: Desk)
     let turn = desk.turn;
     let pen = turn.pen;
     let book = finish(pen, message, held, full, turn.book);
-    let given = hand_over(full, book.is_full);
+    let given = hand_over(output, errors, full, book.is_full);
     Desk {
         have: 0,
         number: desk.number,
@@ -135,18 +148,24 @@ fn close(message: &[u8], held: &mut [u8; 512], full: &mut [u8; 512], desk: Desk)
 }
 
 // The block that is held, and the line on which a bad record begins.
-fn end(held: &[u8; 512], page: &mut [u8; 80], desk: Desk) {
+fn end(
+    output: &impl Print,
+    errors: &impl Print,
+    held: &[u8; 512],
+    page: &mut [u8; 80],
+    desk: Desk,
+) {
     let turn = desk.turn;
     let book = turn.book;
     if desk.is_lost {
         return;
     }
-    if !hand_over(held, book.is_open) {
+    if !hand_over(output, errors, held, book.is_open) {
         return;
     }
     if book.refused != 0 {
         let n = refused_at(page, book.refused);
-        give(STDERR_FILENO, octets::part(page, 0, n));
+        give(errors, errors, octets::part(page, 0, n));
     }
 }
 
@@ -178,6 +197,9 @@ fn begun() -> Desk
 // Reads all of the input. A proved loop has to end, and nothing says that the input does: so the turns are counted down, from
 // a number that no run uses up.
 fn read_all(
+    input: &mut impl Read,
+    output: &impl Print,
+    errors: &impl Print,
     line: &mut [u8; 16384],
     message: &mut [u8],
     held: &mut [u8; 512],
@@ -186,22 +208,29 @@ fn read_all(
     requires { length message.old ≡ 255 }
     ensures { Ready result.turn.pen }
 {
-    let mut input = [0u8; 4096];
+    let mut piece = [0u8; 4096];
     let mut state = begun();
     let mut turns = u64::MAX;
     while turns > 0 {
         turns -= 1;
-        let got = libc::read(STDIN_FILENO, &mut input);
-        if got < 0 {
-            input_failed();
+        let Ok(n) = input.read(&mut piece) else {
+            input_failed(errors);
             state.is_lost = true;
             return state;
-        }
-        let n = io::count(got, &input);
+        };
         if n == 0 {
             return state;
         }
-        state = serve(&input[..n], line, message, held, full, state);
+        state = serve(
+            output,
+            errors,
+            &piece[..n],
+            line,
+            message,
+            held,
+            full,
+            state,
+        );
         if !is_going(state) {
             return state;
         }
@@ -209,20 +238,39 @@ fn read_all(
     state
 }
 
-fn run(line: &mut [u8; 16384], message: &mut [u8], held: &mut [u8; 512], full: &mut [u8; 512])
+fn run(
+    input: &mut impl Read,
+    output: &impl Print,
+    errors: &impl Print,
+    line: &mut [u8; 16384],
+    message: &mut [u8],
+    held: &mut [u8; 512],
+    full: &mut [u8; 512],
+)
     requires { length message.old ≡ 255 }
 {
     let mut page = [0u8; 80];
-    let read = read_all(line, message, held, full);
-    let last = last_line(line, message, held, full, read);
-    let closed = close(message, held, full, last);
-    end(held, &mut page, closed);
+    let read = read_all(input, output, errors, line, message, held, full);
+    let last = last_line(output, errors, line, message, held, full, read);
+    let closed = close(output, errors, message, held, full, last);
+    end(output, errors, held, &mut page, closed);
 }
 
-fn main() {
+fn main(rt: HostRuntime) {
+    let mut input = rt.stdin();
+    let output = rt.stdout();
+    let errors = rt.stderr();
     let mut line = [0u8; 16384];
     let mut message = [0u8; 255];
     let mut held = [0u8; 512];
     let mut full = [0u8; 512];
-    run(&mut line, &mut message, &mut held, &mut full);
+    run(
+        &mut input,
+        &output,
+        &errors,
+        &mut line,
+        &mut message,
+        &mut held,
+        &mut full,
+    );
 }

@@ -1,0 +1,13 @@
+use native.Mathlib.Omega.{arith}
+use Rattle.words.proofs.Onward.{onward}
+use Rattle.trace_writer.proofs.serve.Goals as goal
+
+pub loop-at-smaller-else-not-is_going : goal.loop-at-smaller-else-not-is_going
+loop-at-smaller-else-not-is_going g c =
+    let further = onward c.args.input.now c.loop-at.at c.loop-at.state.have c.gather-more.result c.gather-more.ensures.gathered (omega arith) in
+    omega (arith, further)
+
+pub loop-at-smaller : goal.loop-at-smaller
+loop-at-smaller g c =
+    let further = onward c.args.input.now c.loop-at.at c.loop-at.state.have c.gather-more.result c.gather-more.ensures.gathered (omega arith) in
+    omega (arith, further)
