@@ -10,7 +10,7 @@ use Rattle.codes.specs.Operations.{begins, waits}
 use Rattle.codes.proofs.IdLaws.{IsId}
 use Rattle.sides.specs.Side.{Waiting, among, full, is_empty}
 use Rattle.sides.proofs.SideLaws.{Ids, holds-last, holds-first, holds-none, holds-less, ids-last, ids-less}
-use Rattle.table.specs.Table.{Entry, closed, entry_at, valid, holds}
+use Rattle.table.specs.Table.{Entry, entry_at, valid, holds}
 use Rattle.table.specs.Change.{Side, ours, peers, Change, opens, closes, adds, clears, changed, with_change, CanChange}
 use Rattle.table.proofs.TableLaws.{holds_parts, open-holds, ids_at, fits-at, valid-with}
 

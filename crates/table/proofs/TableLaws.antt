@@ -21,7 +21,7 @@ use Rattle.octets.proofs.SpliceLaws.{length-splice, get_or-within, get_or-before
 use Rattle.codes.specs.Operations.{begins, waits}
 use Rattle.sides.specs.Side.{Waiting, places, is_empty, holds_side, side_of, side_octets, all_zero, sound_side}
 use Rattle.sides.proofs.SideLaws.{Ids, held_of, held-ids, side-back, none-octets, none-zero, octets-length, sound_back, fit_of, sound-holds, held-listed, holds-sound}
-use Rattle.table.specs.Table.{Entry, closed, size, Image, image_in, no_image, image_at, entry_of, sound_image, entry_at, sound_entries, valid, added, state_of, entry_octets, with_entry, lowest_from, lowest_closed, holds}
+use Rattle.table.specs.Table.{Entry, size, Image, image_in, no_image, image_at, entry_of, sound_image, entry_at, sound_entries, valid, added, state_of, entry_octets, with_entry, lowest_from, lowest_closed, holds}
 
 three : (a b c : Bool) → (a && b && c) ≡ true → (a ≡ true) × ((b ≡ true) × (c ≡ true))
 three true true c e = (refl, (refl, e))

@@ -1,8 +1,6 @@
-use borrow.Author.Rules.{rules}
 use native.Mathlib.Omega.{arith}
-use mathlib.Core.Path.{◌≡◌, refl, sym, ◌∙◌, ap}
-use Prim.Native.Nat.{◌≤◌, ◌-◌}
-use lib.ListN.{length, drop, length-drop, drop_of_length-le}
+use mathlib.Core.Path.{refl, sym, ◌∙◌, ap}
+use lib.ListN.{drop, length-drop, drop_of_length-le}
 use lib.Seq.{drop-drop}
 use Rattle.octets.proofs.PartLaws.{rest_part_lem}
 use Rattle.elements.specs.Element.{row}

@@ -1,4 +1,3 @@
-use borrow.Author.Rules.{rules}
 use native.Mathlib.Omega.{arith}
 use Rattle.elements.proofs.Paths.{no_length, short, one-cut, one, other, two-cut, two}
 use Rattle.elements.proofs.read_length.Goals as goal

@@ -1,4 +1,3 @@
-use borrow.Author.Rules.{rules}
 use mathlib.Core.Path.{refl}
 use Rattle.elements.proofs.ElementLaws.{one-octet, two-octets, three-octets}
 use Rattle.elements.proofs.write_header.Goals as goal

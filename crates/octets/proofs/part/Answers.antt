@@ -1,4 +1,3 @@
-use borrow.Author.Rules.{rules}
 use Rattle.octets.proofs.PartLaws.{clamped}
 use Rattle.octets.proofs.part.Goals as goal
 

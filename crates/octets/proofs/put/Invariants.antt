@@ -1,11 +1,7 @@
-use borrow.Author.Rules.{rules}
-use native.Mathlib.Omega.{arith}
-use mathlib.Core.Path.{◌≡◌, refl, ◌∙◌}
+use mathlib.Core.Path.{◌≡◌}
 use Prim.Native.Nat.{◌≤◌, ◌-◌}
-use native.Mathlib.Nat.{le_antisymm}
-use lib.ListN.{length, length-set}
-use lib.Seq.{paste, paste-zero}
-use Rattle.octets.proofs.SpliceLaws.{turn, whole}
+use lib.ListN.{length}
+use lib.Seq.{paste}
 use Rattle.octets.proofs.put.Given as goal
 
 abbrev pub invariant-loop-j : goal.invariant-loop-j

@@ -1,11 +1,10 @@
-use borrow.Author.Rules.{rules}
 use native.Mathlib.Omega.{arith}
-use mathlib.Core.Path.{◌≡◌, sym, ◌∙◌, ap}
-use Prim.Native.Nat.{◌+◌, ◌≤◌, ◌-◌}
-use lib.ListN.{length, drop, length-drop}
+use mathlib.Core.Path.{sym, ◌∙◌, ap}
+use Prim.Native.Nat.{◌+◌}
+use lib.ListN.{drop, length-drop}
 use lib.Seq.{drop-drop}
 use Rattle.octets.proofs.PartLaws.{rest_part_lem}
-use Rattle.records.specs.Records.{bad_record, messages_in, counted}
+use Rattle.records.specs.Records.{bad_record, messages_in}
 use Rattle.records.proofs.RecordLaws.{messages-bad, counting, counting-first, counting-step, counting-last}
 use Rattle.records.proofs.count_records.Goals as goal
 

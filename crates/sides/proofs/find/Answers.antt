@@ -1,14 +1,11 @@
 use borrow.Author.Rules.{rules}
-use Prim.Native.Nat.{◌<◌}
 use native.Mathlib.Numerals.{add-one}
 use Rattle.sides.proofs.Numbers.{shifted-suc}
 use Rattle.sides.proofs.Steps.{found-is}
 use Rattle.codes.specs.Ids.{id_of}
 use Rattle.sides.proofs.Steps.{found_here, found-behind, found_nowhere, before-four}
 use native.Mathlib.Omega.{arith}
-use mathlib.Core.Path.{◌≡◌, refl}
-use Prim.Native.Nat.{◌+◌}
-use Rattle.sides.specs.Seen.{side_seen, shifted, before}
+use mathlib.Core.Path.{refl}
 use Rattle.sides.proofs.find.Goals as goal
 
 pub loop-rest-init : goal.loop-rest-init

@@ -1,4 +1,3 @@
-use borrow.Author.Rules.{rules}
 use Rattle.sides.proofs.Steps.{full-told}
 use Rattle.sides.proofs.is_full.Goals as goal
 

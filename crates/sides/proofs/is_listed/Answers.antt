@@ -1,4 +1,3 @@
-use borrow.Author.Rules.{rules}
 use Rattle.sides.proofs.is_listed.Goals as goal
 
 pub returns-then-ours : goal.returns-then-ours

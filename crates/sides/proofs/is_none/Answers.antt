@@ -1,4 +1,3 @@
-use borrow.Author.Rules.{rules}
 use Rattle.sides.proofs.Steps.{empty-told}
 use Rattle.sides.proofs.is_none.Goals as goal
 

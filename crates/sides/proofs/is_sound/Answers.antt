@@ -1,10 +1,9 @@
 use borrow.Author.Rules.{rules}
 use native.Mathlib.Omega.{arith}
-use mathlib.Core.Path.{◌≡◌, refl, sym, ◌∙◌}
-use Prim.Native.Nat.{◌<◌, ◌%◌}
+use mathlib.Core.Path.{refl, sym, ◌∙◌}
+use Prim.Native.Nat.{◌%◌}
 use Rattle.codes.proofs.IdLaws.{held}
-use Rattle.sides.specs.Side.{sound_side}
-use Rattle.sides.specs.Seen.{octets_seen, listed_for}
+use Rattle.sides.specs.Seen.{listed_for}
 use Rattle.sides.proofs.Numbers.{sound-zero}
 use Rattle.sides.proofs.Steps.{turned-away, goes_on_lem}
 use Rattle.sides.proofs.is_sound.Goals as goal

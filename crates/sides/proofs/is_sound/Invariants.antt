@@ -1,12 +1,7 @@
-use borrow.Author.Rules.{rules}
-use native.Mathlib.Omega.{arith}
-use mathlib.Core.Path.{◌≡◌, refl, sym, ◌∙◌}
-use Prim.Native.Nat.{◌<◌, ◌%◌}
-use Rattle.codes.proofs.IdLaws.{held}
+use mathlib.Core.Path.{◌≡◌}
+use Prim.Native.Nat.{◌<◌}
 use Rattle.sides.specs.Side.{sound_side}
 use Rattle.sides.specs.Seen.{octets_seen, listed_for}
-use Rattle.sides.proofs.Numbers.{sound-zero}
-use Rattle.sides.proofs.Steps.{turned-away, goes_on_lem}
 use Rattle.sides.proofs.is_sound.Given as goal
 
 abbrev pub invariant-loop-rest : goal.invariant-loop-rest

@@ -1,13 +1,9 @@
 use borrow.Author.Rules.{rules}
-use Prim.Native.Nat.{◌<◌}
 use mathlib.Core.Path.{ap}
 use Rattle.sides.proofs.Numbers.{side-none, side-most}
 use Rattle.sides.proofs.Steps.{one_more}
 use native.Mathlib.Omega.{arith}
-use mathlib.Core.Path.{◌≡◌}
-use Prim.Native.Nat.{◌+◌}
 use lib.ListN.{length}
-use Rattle.sides.specs.Seen.{side_seen}
 use Rattle.sides.proofs.used.Goals as goal
 
 pub loop-rest-init : goal.loop-rest-init

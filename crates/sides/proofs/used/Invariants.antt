@@ -1,9 +1,4 @@
-use borrow.Author.Rules.{rules}
 use Prim.Native.Nat.{◌<◌}
-use mathlib.Core.Path.{ap}
-use Rattle.sides.proofs.Numbers.{side-none, side-most}
-use Rattle.sides.proofs.Steps.{one_more}
-use native.Mathlib.Omega.{arith}
 use mathlib.Core.Path.{◌≡◌}
 use Prim.Native.Nat.{◌+◌}
 use lib.ListN.{length}

@@ -1,4 +1,3 @@
-use borrow.Author.Rules.{rules}
 use mathlib.Core.Path.{◌∙◌}
 use Rattle.codes.proofs.IdLaws.{handed, id-octet}
 use Rattle.sides.proofs.Steps.{last_none, last_goes, last-is}

@@ -1,4 +1,3 @@
-use borrow.Author.Rules.{rules}
 use mathlib.Core.Path.{sym, ◌∙◌}
 use Rattle.codes.proofs.IdLaws.{held-is}
 use Rattle.sides.proofs.Steps.{operation-at, kept_whole, moved-goes, moved-is}

@@ -1,4 +1,3 @@
-use borrow.Author.Rules.{rules}
 use Rattle.table.proofs.Steps.{no_flag, no_value_lem, ours, theirs}
 use Rattle.table.proofs.entry_named.Goals as goal
 

@@ -1,10 +1,6 @@
-use borrow.Author.Rules.{rules}
-use mathlib.Core.Path.{◌≡◌, refl, ◌∙◌}
-use native.Mathlib.Omega.{arith}
+use mathlib.Core.Path.{◌≡◌}
 use Prim.Native.Nat.{◌≤◌, ◌-◌}
-use lib.ListN.{length}
 use Rattle.table.specs.Table.{sound_entries}
-use Rattle.table.proofs.Steps.{other_length, one_more, all_seen}
 use Rattle.table.proofs.is_valid.Given as goal
 
 abbrev pub invariant-loop-k : goal.invariant-loop-k

@@ -1,10 +1,6 @@
-use borrow.Author.Rules.{rules}
-use mathlib.Core.Path.{◌≡◌, refl, ap, ◌∙◌}
-use native.Mathlib.Omega.{arith}
+use mathlib.Core.Path.{◌≡◌}
 use Prim.Native.Nat.{◌≤◌, ◌-◌}
-use borrow.Author.Tests.{not-true, not-false}
-use Rattle.table.specs.Table.{Entry, lowest_from, lowest_closed}
-use Rattle.table.proofs.Steps.{at-closed, past_open}
+use Rattle.table.specs.Table.{lowest_from, lowest_closed}
 use Rattle.table.proofs.lowest_closed.Given as goal
 
 abbrev pub invariant-loop-v : goal.invariant-loop-v

@@ -1,4 +1,3 @@
-use borrow.Author.Rules.{rules}
 use native.Mathlib.Omega.{arith}
 use Rattle.table.proofs.Steps.{past_end, within}
 use Rattle.table.proofs.read_entry.Goals as goal

@@ -1,4 +1,3 @@
-use borrow.Author.Rules.{rules}
 use Rattle.table.proofs.Steps.{slot_read}
 use Rattle.table.proofs.read_slot.Goals as goal
 

@@ -1,4 +1,3 @@
-use borrow.Author.Rules.{rules}
 use Rattle.table.specs.Table.{state_of}
 use Rattle.table.proofs.state_of.Goals as goal
 

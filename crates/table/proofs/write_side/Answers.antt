@@ -1,4 +1,3 @@
-use borrow.Author.Rules.{rules}
 use mathlib.Core.Path.{ap, ◌∙◌}
 use Rattle.octets.specs.Splice.{splice}
 use Rattle.table.proofs.Joined.{side-written}

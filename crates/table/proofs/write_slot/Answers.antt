@@ -1,4 +1,3 @@
-use borrow.Author.Rules.{rules}
 use Rattle.table.proofs.Steps.{slot-written}
 use Rattle.table.proofs.write_slot.Goals as goal
 

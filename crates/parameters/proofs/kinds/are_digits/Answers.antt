@@ -1,9 +1,5 @@
-use borrow.Author.Rules.{rules}
 use native.Mathlib.Omega.{arith}
-use Prim.Native.Nat.{◌-◌}
-use mathlib.Core.Path.{◌≡◌, refl, sym, ◌∙◌}
-use lib.ListN.{length, drop}
-use Rattle.parameters.specs.Parameter.{are_digits}
+use mathlib.Core.Path.{sym, ◌∙◌}
 use Rattle.parameters.proofs.DigitLaws.{below-digits, above-digits, digit-on, digits-end}
 use Rattle.parameters.proofs.kinds.are_digits.Goals as goal
 

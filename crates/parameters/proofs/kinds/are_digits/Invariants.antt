@@ -1,10 +1,7 @@
-use borrow.Author.Rules.{rules}
-use native.Mathlib.Omega.{arith}
 use Prim.Native.Nat.{◌-◌}
-use mathlib.Core.Path.{◌≡◌, refl, sym, ◌∙◌}
+use mathlib.Core.Path.{◌≡◌}
 use lib.ListN.{length, drop}
 use Rattle.parameters.specs.Parameter.{are_digits}
-use Rattle.parameters.proofs.DigitLaws.{below-digits, above-digits, digit-on, digits-end}
 use Rattle.parameters.proofs.kinds.are_digits.Given as goal
 
 abbrev pub invariant-loop-i : goal.invariant-loop-i

@@ -1,4 +1,3 @@
-use borrow.Author.Rules.{rules}
 use native.Mathlib.Omega.{arith}
 use Rattle.parameters.specs.Parameter.{holding, is_guidance}
 use Rattle.parameters.proofs.ParameterLaws.{told-inside}

@@ -1,4 +1,3 @@
-use borrow.Author.Rules.{rules}
 use Rattle.parameters.specs.Suits.{is_ussd}
 use Rattle.parameters.proofs.Paths.{none_or}
 use Rattle.parameters.proofs.suits.is_none_or_ussd.Goals as goal

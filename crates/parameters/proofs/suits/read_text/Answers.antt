@@ -1,4 +1,3 @@
-use borrow.Author.Rules.{rules}
 use Rattle.parameters.specs.Parameter.{ussd}
 use Rattle.parameters.proofs.ParameterLaws.{told-is_sound}
 use Rattle.parameters.proofs.suits.read_text.Goals as goal

@@ -1,4 +1,3 @@
-use borrow.Author.Rules.{rules}
 use native.Mathlib.Omega.{arith}
 use Rattle.elements.proofs.NotWhole.{not-whole}
 use Rattle.parameters.proofs.Paths.{none-string, string-other, string-short, string-long, string-held}
