@@ -23,7 +23,6 @@ use Rattle.table.proofs.TableLaws.{holds_at}
 use Rattle.table.proofs.ChangeLaws.{opens-holds, adds-holds, clears-holds, opens-open, adds-open, clears-open}
 use Rattle.judging.specs.StepSix.{Judged, problem, accepted, judge_invoke, judge_result, judge_error}
 use Rattle.judging.proofs.Walk.{walk-invoke, walk-result, walk-error}
-use Rattle.deciding.specs.Decision.{taken}
 use Rattle.deciding.specs.Steps.{first_octet, picked_entry, on_judged, step_six, step_four, five_and_six, four_to_six, on_release, decide}
 use Rattle.deciding.specs.Seen.{Keeps}
 use Rattle.deciding.proofs.StepLaws.{tested, by-type}

@@ -1,7 +1,5 @@
-use borrow.Author.Rules.{rules}
 use mathlib.Core.Path.{◌≡◌, refl, sym, ◌∙◌}
 use mathlib.Core.Bool.{true, false}
-use borrow.Author.Tests.{not-true, not-false}
 use Rattle.octets.specs.Reader.{fault, sound}
 use Rattle.table.specs.Table.{valid}
 use Rattle.table.specs.declared.Named.{Named}

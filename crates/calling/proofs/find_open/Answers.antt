@@ -1,4 +1,3 @@
-use borrow.Author.Rules.{rules}
 use mathlib.Core.Path.{◌≡◌, sym}
 use mathlib.Core.Option.{none, some}
 use borrow.Author.Tests.{not-true, not-false}

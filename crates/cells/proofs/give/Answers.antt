@@ -1,4 +1,3 @@
-use borrow.Author.Rules.{rules}
 use mathlib.Core.Path.{refl}
 use Rattle.cells.proofs.LayLaws.{kept-within}
 use Rattle.cells.proofs.give.Goals as goal

@@ -1,10 +1,9 @@
-use borrow.Author.Rules.{rules}
-use mathlib.Core.Path.{◌≡◌, refl, sym, ◌∙◌}
-use Prim.Native.Nat.{◌-◌, ◌%◌}
+use mathlib.Core.Path.{refl, sym, ◌∙◌}
+use Prim.Native.Nat.{◌%◌}
 use native.Mathlib.Omega.{arith}
 use native.Mathlib.Nat.{mod-one}
 use Rattle.cells.specs.Rows.{carried_to}
-use Rattle.cells.proofs.LayLaws.{Walked, begins, ended-bound, written-bound, held-there, room-there, turned, all-written, all-counted, last-counted, last_written, last-room}
+use Rattle.cells.proofs.LayLaws.{begins, ended-bound, written-bound, held-there, room-there, turned, all-written, all-counted, last-counted, last_written, last-room}
 use Rattle.cells.proofs.lay.Goals as goal
 
 pub loop-at-init : goal.loop-at-init

@@ -1,10 +1,7 @@
-use borrow.Author.Rules.{rules}
-use mathlib.Core.Path.{◌≡◌, refl, sym, ◌∙◌}
-use Prim.Native.Nat.{◌-◌, ◌%◌}
-use native.Mathlib.Omega.{arith}
-use native.Mathlib.Nat.{mod-one}
+use mathlib.Core.Path.{◌≡◌}
+use Prim.Native.Nat.{◌-◌}
 use Rattle.cells.specs.Rows.{carried_to}
-use Rattle.cells.proofs.LayLaws.{Walked, begins, ended-bound, written-bound, held-there, room-there, turned, all-written, all-counted, last-counted, last_written, last-room}
+use Rattle.cells.proofs.LayLaws.{Walked}
 use Rattle.cells.proofs.lay.Given as goal
 
 abbrev pub invariant-loop-at : goal.invariant-loop-at

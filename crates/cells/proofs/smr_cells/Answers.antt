@@ -1,4 +1,3 @@
-use borrow.Author.Rules.{rules}
 use mathlib.Core.Path.{refl}
 use mathlib.Core.Bool.{false≢true}
 use Prim.Native.Nat.{◌/◌, ◌≤◌}

@@ -1,4 +1,3 @@
-use borrow.Author.Rules.{rules}
 use mathlib.Core.Path.{refl}
 use Rattle.deciding.proofs.Paths.{release-bare, release-shown}
 use Rattle.deciding.proofs.course_released.Goals as goal

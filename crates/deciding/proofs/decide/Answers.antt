@@ -1,6 +1,4 @@
-use borrow.Author.Rules.{rules}
 use mathlib.Core.Path.{refl, sym, ◌∙◌}
-use borrow.Author.Tests.{not-true, not-false}
 use Rattle.deciding.proofs.Paths.{not-silent, damaged, no_room_lem, too_long_lem, too_short, other-protocol, goes_on_lem, ready}
 use Rattle.deciding.proofs.decide.Goals as goal
 

@@ -1,7 +1,5 @@
-use borrow.Author.Rules.{rules}
 use mathlib.Core.Path.{◌≡◌, ap, ◌∙◌}
 use mathlib.Core.Bool.{true, false}
-use borrow.Author.Tests.{not-true, not-false}
 use Rattle.messages.specs.Scan.{first_taken}
 use Rattle.components.specs.Shows.{Shows}
 use Rattle.deciding.specs.Decision.{Decision, released, shown_by}

@@ -1,4 +1,3 @@
-use borrow.Author.Rules.{rules}
 use mathlib.Core.Path.{◌≡◌, refl, sym, ◌∙◌}
 use Rattle.octets.proofs.PartLaws.{rest_part_lem}
 use Rattle.messages.specs.Layout.{value}

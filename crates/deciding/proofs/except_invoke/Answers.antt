@@ -1,4 +1,3 @@
-use borrow.Author.Rules.{rules}
 use Rattle.deciding.proofs.except_invoke.Goals as goal
 
 pub returns-in-Invoke : goal.returns-in-Invoke

@@ -1,4 +1,3 @@
-use borrow.Author.Rules.{rules}
 use Rattle.deciding.proofs.Paths.{first-none}
 use Rattle.deciding.proofs.first_octet.Goals as goal
 

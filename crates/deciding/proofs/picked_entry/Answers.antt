@@ -1,4 +1,3 @@
-use borrow.Author.Rules.{rules}
 use Rattle.deciding.proofs.Paths.{entry-ours, entry-theirs}
 use Rattle.deciding.proofs.picked_entry.Goals as goal
 

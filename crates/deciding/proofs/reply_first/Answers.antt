@@ -1,4 +1,3 @@
-use borrow.Author.Rules.{rules}
 use Rattle.deciding.proofs.Paths.{reply-is}
 use Rattle.deciding.proofs.reply_first.Goals as goal
 

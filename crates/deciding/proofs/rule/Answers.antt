@@ -1,4 +1,3 @@
-use borrow.Author.Rules.{rules}
 use mathlib.Core.Path.{refl}
 use Rattle.codes.proofs.IdLaws.{held-is}
 use Rattle.deciding.proofs.rule.Goals as goal

@@ -1,4 +1,3 @@
-use borrow.Author.Rules.{rules}
 use Rattle.judging.specs.StepSix.{is_ours}
 use Rattle.judging.proofs.is_ours.Goals as goal
 

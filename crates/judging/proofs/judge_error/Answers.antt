@@ -1,8 +1,6 @@
-use borrow.Author.Rules.{rules}
 use mathlib.Core.Path.{◌≡◌, refl, sym, ◌∙◌}
 use mathlib.Core.Bool.{true, false}
 use Rattle.codes.specs.Errors.{listed}
-use borrow.Author.Tests.{not-true, not-false}
 use Rattle.codes.proofs.IdLaws.{held-is}
 use Rattle.sides.specs.Seen.{side_seen}
 use Rattle.judging.specs.StepSix.{judge_error}

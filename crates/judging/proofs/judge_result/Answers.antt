@@ -1,9 +1,7 @@
-use borrow.Author.Rules.{rules}
 use mathlib.Core.Path.{◌≡◌}
 use mathlib.Core.Bool.{true, false, ◌&&◌}
 use Rattle.components.specs.Seen.{operation_seen}
 use Rattle.parameters.specs.Suits.{suits, ResultReceived}
-use borrow.Author.Tests.{not-true, not-false}
 use Rattle.codes.proofs.IdLaws.{held-is}
 use Rattle.sides.specs.Seen.{side_seen}
 use Rattle.judging.specs.StepSix.{is_ours, judge_result}

@@ -1,4 +1,3 @@
-use borrow.Author.Rules.{rules}
 use mathlib.Core.Path.{sym, ◌∙◌}
 use Rattle.codes.proofs.IdLaws.{held-is}
 use Rattle.judging.proofs.kept.Goals as goal

@@ -1,4 +1,3 @@
-use borrow.Author.Rules.{rules}
 use native.Mathlib.Omega.{arith}
 use Rattle.octets.proofs.PartLaws.{rest_part_lem}
 use Rattle.places.proofs.Paths.{coded_none, coded-fault, coded-is}

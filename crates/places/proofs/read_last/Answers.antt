@@ -1,4 +1,3 @@
-use borrow.Author.Rules.{rules}
 use Rattle.places.proofs.Left.{problem-is, something-left}
 use Rattle.places.proofs.Paths.{no-parameter, parameter-fault, behind, lone}
 use Rattle.places.proofs.read_last.Goals as goal

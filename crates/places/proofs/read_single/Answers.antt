@@ -1,4 +1,3 @@
-use borrow.Author.Rules.{rules}
 use native.Mathlib.Omega.{arith}
 use Rattle.places.proofs.Left.{problem-is}
 use Rattle.places.proofs.Paths.{single-fault, single-tag, single-length, single-is}

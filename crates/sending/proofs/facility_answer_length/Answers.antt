@@ -1,4 +1,3 @@
-use borrow.Author.Rules.{rules}
 use native.Mathlib.Omega.{arith}
 use Rattle.writing.proofs.WriteLaws.{answer-bound}
 use Rattle.sending.proofs.facility_answer_length.Goals as goal

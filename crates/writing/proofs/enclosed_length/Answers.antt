@@ -1,4 +1,3 @@
-use borrow.Author.Rules.{rules}
 use native.Mathlib.Omega.{arith}
 use Rattle.elements.proofs.ElementLaws.{shortest-length}
 use Rattle.writing.proofs.enclosed_length.Goals as goal

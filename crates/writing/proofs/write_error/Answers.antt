@@ -1,4 +1,3 @@
-use borrow.Author.Rules.{rules}
 use native.Mathlib.Omega.{arith}
 use Rattle.components.specs.Written.{contents}
 use Rattle.codes.proofs.IdLaws.{handed}

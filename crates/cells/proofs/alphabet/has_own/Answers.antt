@@ -1,6 +1,4 @@
-use borrow.Author.Rules.{rules}
 use mathlib.Core.Path.{refl}
-use borrow.Author.Tests.{not-true, not-false}
 use Rattle.cells.proofs.alphabet.has_own.Goals as goal
 
 pub returns-then-not-escaped : goal.returns-then-not-escaped

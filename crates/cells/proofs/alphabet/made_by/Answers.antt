@@ -1,4 +1,3 @@
-use borrow.Author.Rules.{rules}
 use mathlib.Core.Path.{sym, ◌∙◌}
 use Rattle.cells.proofs.AlphabetLaws.{mark-there, marked, currency, mark-turned, itself}
 use Rattle.cells.proofs.alphabet.made_by.Goals as goal

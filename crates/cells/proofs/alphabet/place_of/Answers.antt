@@ -1,4 +1,3 @@
-use borrow.Author.Rules.{rules}
 use mathlib.Core.Path.{refl, sym, ◌∙◌}
 use Rattle.cells.specs.Marks.{place_of}
 use Rattle.cells.proofs.alphabet.place_of.Goals as goal

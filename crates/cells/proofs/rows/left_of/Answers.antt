@@ -1,4 +1,3 @@
-use borrow.Author.Rules.{rules}
 use Rattle.cells.proofs.RowLaws.{left-whole, left-forty, left-space}
 use Rattle.cells.proofs.rows.left_of.Goals as goal
 

@@ -1,4 +1,3 @@
-use borrow.Author.Rules.{rules}
 use Rattle.cells.proofs.RowLaws.{last_line_lem, forty-line, space-line}
 use Rattle.cells.proofs.rows.line_of.Goals as goal
 

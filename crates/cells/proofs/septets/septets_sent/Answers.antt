@@ -1,4 +1,3 @@
-use borrow.Author.Rules.{rules}
 use Prim.Native.Nat.{◌-◌}
 use lib.ListN.{length}
 use Rattle.cells.proofs.SeptetLaws.{no-boundary, no-octets, no-pad, pad}

@@ -1,4 +1,3 @@
-use borrow.Author.Rules.{rules}
 use borrow.Author.Tests.{eq-eqb, ne_eqb}
 use Rattle.components.specs.Facility.{after_tag}
 use Rattle.codes.proofs.IdLaws.{held-is}

@@ -1,7 +1,5 @@
-use borrow.Author.Rules.{rules}
 use native.Mathlib.Omega.{arith}
 use mathlib.Core.Path.{sym, ◌∙◌}
-use borrow.Author.Tests.{not-true, not-false}
 use Rattle.octets.proofs.PartLaws.{rest_part_lem}
 use Rattle.elements.proofs.NotWhole.{not-whole}
 use Rattle.components.proofs.Paths.{reading-end, facility-empty, facility-tag, facility-outer, facility-left, facility-inside}

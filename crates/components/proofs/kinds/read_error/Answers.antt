@@ -1,4 +1,3 @@
-use borrow.Author.Rules.{rules}
 use Rattle.codes.proofs.IdLaws.{held-is}
 use Rattle.components.proofs.Paths.{error-none, error-is}
 use Rattle.components.proofs.kinds.read_error.Goals as goal

@@ -1,7 +1,5 @@
-use borrow.Author.Rules.{rules}
 use native.Mathlib.Omega.{arith}
 use lib.ListN.{drop}
-use borrow.Author.Tests.{not-true, not-false}
 use Rattle.octets.proofs.PartLaws.{rest_part_lem}
 use Rattle.places.proofs.Left.{problem-is}
 use Rattle.components.proofs.Paths.{reject-none, reject-fault, reject-behind, reject-tag, reject-length, reject-is}

@@ -1,4 +1,3 @@
-use borrow.Author.Rules.{rules}
 use native.Mathlib.Omega.{arith}
 use Rattle.places.proofs.Left.{problem-is, something-left}
 use Rattle.codes.proofs.IdLaws.{held-is}

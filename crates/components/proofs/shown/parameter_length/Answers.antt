@@ -1,4 +1,3 @@
-use borrow.Author.Rules.{rules}
 use Rattle.components.proofs.shown.parameter_length.Goals as goal
 
 pub returns-in-Invoke : goal.returns-in-Invoke

@@ -1,4 +1,3 @@
-use borrow.Author.Rules.{rules}
 use native.Mathlib.Omega.{arith}
 use Rattle.messages.proofs.Paths.{no_length, sized-cut, sized-is}
 use Rattle.messages.proofs.layout.read_sized.Goals as goal

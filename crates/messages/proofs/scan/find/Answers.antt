@@ -1,10 +1,7 @@
-use borrow.Author.Rules.{rules}
 use native.Mathlib.Omega.{arith}
-use mathlib.Core.Path.{◌≡◌, refl, sym, ◌∙◌}
-use Prim.Native.Nat.{◌≤◌, ◌-◌}
-use lib.ListN.{length, drop, length-drop}
+use mathlib.Core.Path.{refl, sym, ◌∙◌}
+use lib.ListN.{drop, length-drop}
 use Rattle.octets.proofs.PartLaws.{rest_part_lem}
-use Rattle.messages.specs.Scan.{first_taken}
 use Rattle.messages.proofs.NotWhole.{not-whole}
 use Rattle.messages.proofs.ScanLaws.{taken_none}
 use Rattle.messages.proofs.Paths.{found_at, find-on}

@@ -1,13 +1,7 @@
-use borrow.Author.Rules.{rules}
-use native.Mathlib.Omega.{arith}
-use mathlib.Core.Path.{◌≡◌, refl, sym, ◌∙◌}
+use mathlib.Core.Path.{◌≡◌}
 use Prim.Native.Nat.{◌≤◌, ◌-◌}
-use lib.ListN.{length, drop, length-drop}
-use Rattle.octets.proofs.PartLaws.{rest_part_lem}
+use lib.ListN.{length, drop}
 use Rattle.messages.specs.Scan.{first_taken}
-use Rattle.messages.proofs.NotWhole.{not-whole}
-use Rattle.messages.proofs.ScanLaws.{taken_none}
-use Rattle.messages.proofs.Paths.{found_at, find-on}
 use Rattle.messages.proofs.scan.find.Given as goal
 
 abbrev pub invariant-loop-met : goal.invariant-loop-met

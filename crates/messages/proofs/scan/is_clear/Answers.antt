@@ -1,11 +1,7 @@
-use borrow.Author.Rules.{rules}
 use native.Mathlib.Omega.{arith}
-use mathlib.Core.Path.{◌≡◌, refl, sym, ◌∙◌}
-use mathlib.Core.Bool.{true}
-use Prim.Native.Nat.{◌≤◌, ◌-◌}
-use lib.ListN.{length, drop, length-drop}
+use mathlib.Core.Path.{refl, sym, ◌∙◌}
+use lib.ListN.{drop, length-drop}
 use Rattle.octets.proofs.PartLaws.{rest_part_lem}
-use Rattle.messages.specs.Scan.{clear as clearAll}
 use Rattle.messages.proofs.NotWhole.{not-whole}
 use Rattle.messages.proofs.Paths.{clear-end, clear-stop, clear-left, clear-on}
 use Rattle.messages.proofs.scan.is_clear.Goals as goal

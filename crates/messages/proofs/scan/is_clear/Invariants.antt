@@ -1,13 +1,8 @@
-use borrow.Author.Rules.{rules}
-use native.Mathlib.Omega.{arith}
-use mathlib.Core.Path.{◌≡◌, refl, sym, ◌∙◌}
+use mathlib.Core.Path.{◌≡◌}
 use mathlib.Core.Bool.{true}
 use Prim.Native.Nat.{◌≤◌, ◌-◌}
-use lib.ListN.{length, drop, length-drop}
-use Rattle.octets.proofs.PartLaws.{rest_part_lem}
+use lib.ListN.{length, drop}
 use Rattle.messages.specs.Scan.{clear as clearAll}
-use Rattle.messages.proofs.NotWhole.{not-whole}
-use Rattle.messages.proofs.Paths.{clear-end, clear-stop, clear-left, clear-on}
 use Rattle.messages.proofs.scan.is_clear.Given as goal
 
 abbrev pub invariant-loop-i : goal.invariant-loop-i

@@ -1,4 +1,3 @@
-use borrow.Author.Rules.{rules}
 use native.Mathlib.Omega.{arith}
 use Rattle.messages.proofs.Paths.{no_item, one-octet, no-item-length, item-cut, item-whole}
 use Rattle.messages.proofs.scan.read_item.Goals as goal

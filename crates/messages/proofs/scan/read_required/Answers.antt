@@ -1,9 +1,7 @@
-use borrow.Author.Rules.{rules}
 use native.Mathlib.Omega.{arith}
 use mathlib.Core.Path.{◌≡◌, sym, ◌∙◌}
 use lib.ListN.{drop}
 use Rattle.messages.specs.Scan.{clear}
-use borrow.Author.Tests.{not-true, not-false}
 use Rattle.octets.proofs.PartLaws.{rest_part_lem}
 use Rattle.messages.proofs.Paths.{required-missing, required-refused, required-is}
 use Rattle.messages.proofs.scan.read_required.Goals as goal

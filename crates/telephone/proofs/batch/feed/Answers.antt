@@ -1,7 +1,5 @@
 use native.Mathlib.Omega.{arith}
-use Prim.Native.Nat.{◌-◌}
-use lib.ListN.{length}
-use Rattle.telephone.proofs.BatchLaws.{Feeding, feeding-first, feeding-record, feeding-within, feeding-step, output-fed, table-fed}
+use Rattle.telephone.proofs.BatchLaws.{feeding-first, feeding-record, feeding-within, feeding-step, output-fed, table-fed}
 use Rattle.telephone.proofs.batch.feed.Goals as goal
 
 pub loop-i-init : goal.loop-i-init

@@ -1,7 +1,6 @@
-use native.Mathlib.Omega.{arith}
 use Prim.Native.Nat.{◌-◌}
 use lib.ListN.{length}
-use Rattle.telephone.proofs.BatchLaws.{Feeding, feeding-first, feeding-record, feeding-within, feeding-step, output-fed, table-fed}
+use Rattle.telephone.proofs.BatchLaws.{Feeding}
 use Rattle.telephone.proofs.batch.feed.Given as goal
 
 abbrev pub invariant-loop-i : goal.invariant-loop-i

@@ -1,5 +1,3 @@
-use borrow.Author.Rules.{rules}
-use borrow.Author.Tests.{not-true, not-false}
 use mathlib.Core.Path.{sym, ◌∙◌}
 use Rattle.telephone.proofs.BatchLaws.{refused-table, refused-records, refused-room, can-feed, wholly-fed}
 use Rattle.telephone.proofs.batch.smr_batch.Goals as goal

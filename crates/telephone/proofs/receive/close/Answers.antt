@@ -1,4 +1,3 @@
-use borrow.Author.Rules.{rules}
 use mathlib.Core.Path.{◌∙◌}
 use Rattle.table.specs.Table.{entry_at}
 use Rattle.table.proofs.ChangeLaws.{closes-holds}

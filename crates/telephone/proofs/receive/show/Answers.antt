@@ -1,4 +1,3 @@
-use borrow.Author.Rules.{rules}
 use Rattle.showing.specs.Views.{component_view, text_view}
 use Rattle.telephone.proofs.receive.show.Goals as goal
 

@@ -1,4 +1,3 @@
-use borrow.Author.Rules.{rules}
 use mathlib.Core.Path.{ap, ◌∙◌}
 use Rattle.showing.specs.Views.{standing}
 use Rattle.telephone.specs.declared.receive.Received.{Received}
