@@ -43,7 +43,3 @@ returns c =
     let s = bench_state a.space.now a.held in
     let e : image a.number s a.octets.now ≡ says (not_understood a.number) s = image-long a.number s a.octets.now (omega arith) in
     stays _ a.space.now _ _ _ _ _ a.held.room _ e (omega arith) (omega arith) (omega arith) refl (c.not_understood-a.ensures.0, c.not_understood-a.ensures.1.0) (omega arith)
-
--- NEED? slice-aggregate-octets-line-2
--- slice-aggregate-octets-line-2 : tie.Need-slice-aggregate-octets-line-2
--- slice-aggregate-octets-line-2 c = sym (length-take-le c.before.before.before.before.before.before.before.args.held.size c.before.before.before.before.before.before.before.args.space.now (omega arith))

@@ -40,16 +40,3 @@ returns c =
     (10 ∷ [])
     _ _ _ _ _ _ _ _ _ _ h i (c.text_lines-e.ensures.0, c.text_lines-e.ensures.1.0) (c.cause_line-f.ensures.0, c.cause_line-f.ensures.1.0) (c.written_line-g.ensures.0, c.written_line-g.ensures.1.0) c.put_words.ensures in
     (j.0, (omega (arith, j.1), b))
-
--- NEED? same-length
--- same_length : tie.Need-same-length
--- same_length c =
---     let v = c.before.before.before.before.before.before.before.before.before.before.before.before.before.before.before.before.before.before.before.before.before.before.before.before.before.before.before.before.before.before.before.before.verdict-line in
---     let k = c.before.before.before.before.before.before.before.before.before.before.before.before.before.before.before.before.before.before.before.before.before.before.before.before.before.before.before.before.kind-lines in
---     let n = c.before.before.before.before.before.before.before.before.before.before.before.before.before.before.before.before.before.before.before.before.before.before.before.before.number-lines in
---     let p = c.before.before.before.before.before.before.before.before.before.before.before.before.before.before.before.before.before.before.before.before.parameter-line in
---     let t = c.before.before.before.before.before.before.before.before.before.before.before.before.before.before.before.before.text-lines in
---     let u = c.before.before.before.before.before.before.before.before.before.before.before.before.cause-line in
---     let w = c.before.before.before.before.before.before.before.written-line in
---     let l : length w.new.page ≡ length c.before.before.before.before.before.before.before.before.before.before.before.before.before.before.before.before.before.before.before.before.before.before.before.before.before.before.before.before.before.before.before.before.before.before.before.before.before.before.before.before.args.page.now = w.auto.page ∙ u.auto.page ∙ t.auto.page ∙ p.auto.page ∙ n.auto.page ∙ k.auto.page ∙ v.auto.page in
---     c.before.before.put-words.auto.page ∙ l

@@ -26,7 +26,3 @@ loop-k-preserved c =
 pub returns : goal.returns
 returns c =
     let a = c.args in all-written a.page.now a.at a.output.now c.loop-k.page c.loop-k.place c.loop-k.k a.slots (omega arith) c.loop-k.invariant.1.1
-
--- NEED? same-length
--- same_length : tie.Need-same-length invariant-loop decreases-loop
--- same_length c = c.before.loop.invariant.1.0

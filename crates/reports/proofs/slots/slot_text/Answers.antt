@@ -21,7 +21,3 @@ returns c =
     let j = join a.page.now a.at (verdict_line (get_or a.output.now a.from 0)) (written_line reply_word (get_or a.output.now (a.from + 1) 0) (between (a.from + 2) (a.from + 14) a.output.now))
     _ _ _ _ (omega (arith, m, c.requires)) (c.verdict_line-behind.ensures.0, c.verdict_line-behind.ensures.1.0) (w.0, w.1.0) in
     rw (slot_is a.from a.output.now) (j.0, (j.1, m))
-
--- NEED? overflow-cast-written
--- cast-written : tie.Need-overflow-cast-written
--- cast-written c = omega (arith, c.shared-slice-known3.given (c.before.before.before.before.before.before.before.before.args.from + 1))
