@@ -1,8 +1,5 @@
-use borrow.Author.Rules.{rules}
-use native.Mathlib.Omega.{arith}
 use Prim.Native.Nat.{◌≤◌, ◌-◌}
 use lib.ListN.{length}
-use Rattle.words.proofs.Onward.{onward}
 use Rattle.bench.proofs.serve.Given as goal
 
 abbrev pub invariant-loop-at : goal.invariant-loop-at

@@ -1,4 +1,4 @@
-use Rattle.std.proofs.Common.{length, ◌-◌, ◌≤◌, ◌≡◌}
+use Rattle.std.proofs.Common.{length, ◌≤◌, ◌≡◌}
 use Rattle.trace_lines.specs.Desk.{Ready}
 use Rattle.trace_writer.proofs.read_all.Given as goal
 

@@ -1,4 +1,3 @@
-use borrow.Author.Rules.{rules}
 use mathlib.Core.Path.{sym, ap}
 use Rattle.answers.specs.Answers.{asks_of}
 use Rattle.answers.proofs.answer.asks_of.Goals as goal

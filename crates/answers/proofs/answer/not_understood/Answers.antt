@@ -1,4 +1,3 @@
-use borrow.Author.Rules.{rules}
 use native.Mathlib.Omega.{arith}
 use Rattle.printing.specs.Numbers.{decimal}
 use Rattle.reports.specs.Words.{line_word, not_understood_words}

@@ -1,7 +1,5 @@
-use borrow.Author.Rules.{rules}
 use native.Mathlib.Omega.{arith}
 use lib.ListN.{replicate}
-use borrow.Author.Tests.{not-true, not-false}
 use Prim.Native.Nat.{◌≤◌}
 use Rattle.printing.proofs.JoinLaws.{nothing}
 use Rattle.cells.proofs.RoomLaws.{lines_fit}

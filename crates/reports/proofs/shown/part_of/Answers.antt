@@ -1,4 +1,3 @@
-use borrow.Author.Rules.{rules}
 use Rattle.reports.proofs.RowLaws.{between-length}
 use Rattle.reports.proofs.shown.part_of.Goals as goal
 

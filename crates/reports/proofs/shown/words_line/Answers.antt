@@ -1,6 +1,4 @@
-use borrow.Author.Rules.{rules}
 use native.Mathlib.Omega.{arith}
-use borrow.Author.Tests.{not-true, not-false}
 use Rattle.printing.proofs.JoinLaws.{nothing}
 use Rattle.reports.proofs.shown.words_line.Goals as goal
 

@@ -1,9 +1,7 @@
-use borrow.Author.Rules.{rules}
-use Prim.Native.Nat.{◌+◌, ◌*◌, ◌-◌, ◌≤◌}
-use mathlib.Core.Path.{◌≡◌, refl, ◌∙◌}
+use Prim.Native.Nat.{◌+◌, ◌*◌, ◌≤◌}
+use mathlib.Core.Path.{refl, ◌∙◌}
 use native.Mathlib.Omega.{arith}
-use lib.ListN.{length, drop}
-use Rattle.printing.specs.Page.{WroteWithin}
+use lib.ListN.{drop}
 use Rattle.printing.proofs.JoinLaws.{nothing, join}
 use Rattle.reports.specs.Slots.{slot_text, slot_lines}
 use Rattle.reports.proofs.SlotLaws.{one_more_lem, all-written}

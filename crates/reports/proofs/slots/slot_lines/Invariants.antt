@@ -1,12 +1,8 @@
-use borrow.Author.Rules.{rules}
-use Prim.Native.Nat.{◌+◌, ◌*◌, ◌-◌, ◌≤◌}
-use mathlib.Core.Path.{◌≡◌, refl, ◌∙◌}
-use native.Mathlib.Omega.{arith}
-use lib.ListN.{length, drop}
+use Prim.Native.Nat.{◌*◌, ◌-◌, ◌≤◌}
+use mathlib.Core.Path.{◌≡◌}
+use lib.ListN.{length}
 use Rattle.printing.specs.Page.{WroteWithin}
-use Rattle.printing.proofs.JoinLaws.{nothing, join}
-use Rattle.reports.specs.Slots.{slot_text, slot_lines}
-use Rattle.reports.proofs.SlotLaws.{one_more_lem, all-written}
+use Rattle.reports.specs.Slots.{slot_lines}
 use Rattle.reports.proofs.slots.slot_lines.Given as goal
 
 abbrev pub invariant-loop-k : goal.invariant-loop-k
