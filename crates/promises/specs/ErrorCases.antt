@@ -21,11 +21,11 @@ error_with code = 0x8B ∷ 0x3A ∷ 0x08 ∷ 0xA3 ∷ 0x06 ∷ 0x02 ∷ 0x01 ∷
 abbrev pub end_with : ℕ → List ℕ
 end_with code = 0x8B ∷ 0x2A ∷ 0x1C ∷ 0x08 ∷ 0xA3 ∷ 0x06 ∷ 0x02 ∷ 0x01 ∷ 0x01 ∷ 0x02 ∷ 0x01 ∷ code ∷ []
 
--- unknown_alphabet, as it is shown
+-- unknownAlphabet, as it is shown
 abbrev pub alphabet_shown : Shows
 alphabet_shown = shown (error (pos 1) 71 []) []
 
--- ussd-Busy to eraseSS is refused; unknown_alphabet to 59 is shown, and nothing waits any more
+-- ussd-Busy to eraseSS is refused; unknownAlphabet to 59 is shown, and nothing waits any more
 abbrev pub ErrorCases : Type 0
 ErrorCases =
     Answers 3 (0x0B ∷ 0x2A ∷ 0x1C ∷ 0x08 ∷ 0xA4 ∷ 0x06 ∷ 0x02 ∷ 0x01 ∷ 0x01 ∷ 0x83 ∷ 0x01 ∷ 0x03 ∷ []) (receive own11 (error_with 72) buffer)
