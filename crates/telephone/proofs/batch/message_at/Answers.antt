@@ -20,7 +20,3 @@ slice_bounds-result-end c = let w = (message-is c.args.records.now c.args.at c.r
 
 pub returns : goal.returns
 returns c = record { octets = (message-is c.args.records.now c.args.at c.requires).1; place = refl }
-
--- NEED? overflow-cast-n
--- cast-n : tie.Need-overflow-cast-n
--- cast-n c = omega (arith, c.shared-slice-known.given c.before.args.at)
