@@ -14,14 +14,16 @@ use Rattle.printing.proofs.FortyLaws.{forty-append, count-forty, number-forty, o
 use Rattle.words.specs.Commands as commands
 use Rattle.words.specs.declared.Ending.{Ending}
 use Rattle.words.specs.declared.Ending.TheVariants.{Whole, Wrong, Long}
+use Rattle.std.proofs.Common.{Option, None, Some, Result as OrElse, Ok, Err}
+use Rattle.words.specs.declared.NotUnderstood.{NotUnderstood}
 use Rattle.words.specs.declared.Command.{Command}
-use Rattle.words.specs.declared.Command.TheVariants.{Nothing, Unknown, Receive, Begin, Invoke, Result, Error, Release, Table, Buffer, Batch}
+use Rattle.words.specs.declared.Command.TheVariants.{Receive, Begin, Invoke, Result, Error, Release, Table, Buffer, Batch}
 use Rattle.reports.specs.Words.{table_word, buffer_word, line_word, table_set}
 use Rattle.reports.proofs.FortyLaws.{received-forty, called-forty, batched-forty}
 use Rattle.words.specs.Lines.{longest}
 use Rattle.answers.specs.declared.answer.Asks.{Asks}
-use Rattle.answers.specs.declared.answer.Asks.TheVariants.{Passed, Unclear, Room, Image, Call}
-use Rattle.answers.specs.Answers.{State, Said, says, not_understood, too_long, made, image, asks_of, unless_whole, octets_at, on_octets, by_asks, answer, answer_line}
+use Rattle.answers.specs.declared.answer.Asks.TheVariants.{Room, Image, Call}
+use Rattle.answers.specs.Answers.{State, Said, says, not_understood, too_long, made, image, asks_of, unless_whole, octets_at, on_octets, by_asks, by_command, answer, answer_line}
 
 nothing : forty [] ≡ true
 unfolding forty forty_from
@@ -49,8 +51,6 @@ long-forty n =
 
 made-forty : (t buffer p : List ℕ) (c : Command) → forty (made t buffer p c).text ≡ true
 unfolding made
-made-forty t buffer p Nothing = nothing
-made-forty t buffer p Unknown = nothing
 made-forty t buffer p (Receive at) = received-forty p _ _
 made-forty t buffer p (Begin operation id at) = called-forty true _ _
 made-forty t buffer p (Invoke flag value operation id at) = called-forty false _ _
@@ -88,11 +88,15 @@ module _ (n : ℕ) (s : State) where
 
   asked : (line : List ℕ) (c : Command) (a : Asks) → forty (by_asks n line c s a).text ≡ true
   unfolding by_asks plain
-  asked line c Passed = nothing
-  asked line c Unclear = understood-forty n
   asked line c (Room room) = forty-append _ (10 ∷ []) (number-forty buffer_word room refl (omega arith)) empty-line
   asked line c (Image at) = octets-answered line at true c
   asked line c (Call at) = octets-answered line at false c
+
+  told : (line : List ℕ) (r : OrElse (Option Command) NotUnderstood) → forty (by_command n line s r).text ≡ true
+  unfolding by_command
+  told line (Ok None) = nothing
+  told line (Ok (Some c)) = asked line c (asks_of (length line) c)
+  told line (Err e) = understood-forty n
 
   pub answer-forty : (line : List ℕ) (have : ℕ) → forty (answer_line n line have s).text ≡ true
   unfolding answer_line answer
@@ -100,4 +104,4 @@ module _ (n : ℕ) (s : State) where
     where
       go : (b : Bool) → forty (cond b (says (too_long n) s) (answer n (take have line) s)).text ≡ true
       go true = long-forty n
-      go false = asked (take have line) (commands.command (take have line)) (asks_of (length (take have line)) (commands.command (take have line)))
+      go false = told (take have line) (commands.command (take have line))

@@ -1,5 +1,3 @@
-mod PageLaws
 mod AnswerLaws
-mod CallLaws
 mod RoomLaws
 pub mod FortyLaws

@@ -1,7 +1,6 @@
 -- The bench: each line's answer, and what it leaves for the lines behind it.
-use Rattle.std.specs.Prelude.{ℕ, ◌≤◌, ◌≡◌, List, [], ◌∷◌, ◌++◌, Bool, true, false, cond, length, take, drop, replicate, leb, ltb}
+use Rattle.std.specs.Prelude.{ℕ, ◌≤◌, ◌≡◌, List, [], ◌∷◌, ◌++◌, Bool, true, false, cond, length, take, drop, replicate, leb, ltb, Option, None, Some, Result as OrElse, Ok, Err}
 use Rattle.octets.specs.Reader.{is_empty}
-use Rattle.octets.specs.Splice.{splice}
 use Rattle.printing.specs.Page.{Filled}
 use Rattle.printing.specs.Numbers.{decimal}
 use Rattle.printing.specs.Lines.{octets_line, number_line}
@@ -10,16 +9,16 @@ use Rattle.words.specs.Commands as commands
 use Rattle.words.specs.declared.Ending.{Ending}
 use Rattle.words.specs.declared.Ending.TheVariants.{Whole, Wrong, Long}
 use Rattle.words.specs.declared.Command.{Command}
-use Rattle.words.specs.declared.Command.TheVariants.{Nothing, Unknown, Receive, Begin, Invoke, Result, Error, Release, Table, Buffer, Batch}
+use Rattle.words.specs.declared.NotUnderstood.{NotUnderstood}
+use Rattle.words.specs.declared.Command.TheVariants.{Receive, Begin, Invoke, Result, Error, Release, Table, Buffer, Batch}
 use Rattle.telephone.specs.Outcome.{Outcome}
 use Rattle.telephone.specs.Receive.{receive}
 use Rattle.telephone.specs.Calls.{begin, invoke_within, result, error, release}
 use Rattle.telephone.specs.Batch.{Batch as BatchOutcome, batch}
 use Rattle.telephone.specs.FromC.{received_of, called_of, batched_of}
 use Rattle.words.specs.Lines.{longest}
-use Rattle.answers.specs.declared.answer.Held.{Held}
 use Rattle.answers.specs.declared.answer.Asks.{Asks}
-use Rattle.answers.specs.declared.answer.Asks.TheVariants.{Passed, Unclear, Room, Image, Call}
+use Rattle.answers.specs.declared.answer.Asks.TheVariants.{Room, Image, Call}
 use Rattle.reports.specs.Words.{table_word, buffer_word, line_word, table_set, not_understood_words, too_long_words}
 use Rattle.reports.specs.Shown.{received_text, called_text}
 use Rattle.reports.specs.Slots.{batched_text}
@@ -28,6 +27,10 @@ use Rattle.reports.specs.Slots.{batched_text}
 pub record State : Type 0 where
   pub table : List ℕ
   pub room : ℕ
+
+-- "The table starts all zero"
+abbrev pub starting : ℕ → ℕ → State
+starting size room = record { table = replicate size 0; room = room }
 
 pub record Said : Type 0 where
   pub text : List ℕ
@@ -74,8 +77,6 @@ made t buffer p (Result flag value id at) = made_call false (result t buffer fla
 made t buffer p (Error flag value id code at) = made_call false (error t buffer flag value id code p)
 made t buffer p (Release flag value) = made_call false (release t buffer flag value)
 made t buffer p (Batch at) = made_batch (batch t p buffer)
-made t buffer p Nothing = idle t
-made t buffer p Unknown = idle t
 made t buffer p (Table at) = idle t
 made t buffer p (Buffer n) = idle t
 
@@ -89,10 +90,8 @@ image n s p =
     (cond (leb (length p) 300) (says table_set (record { table = p; room = s.room }))
     (says (not_understood n) s))
 
--- what a command asks for: nothing, the room, the image or a call with the octets from a place on
+-- what a command asks for: the room, the image or a call with the octets from a place on
 abbrev pub asks_of : ℕ → Command → Asks
-asks_of end Nothing = Passed
-asks_of end Unknown = Unclear
 asks_of end (Buffer n) = Room n
 asks_of end (Table at) = Image at
 asks_of end (Receive at) = Call at
@@ -118,40 +117,32 @@ on_octets n line at isImage c s =
     unless_whole n s (octets_at line at).ends (cond isImage (image n s (octets_at line at).octets) (call c s (octets_at line at).octets))
 
 unfoldable pub by_asks : ℕ → List ℕ → Command → State → Asks → Said
-by_asks n line c s Passed = says [] s
-by_asks n line c s Unclear = says (not_understood n) s
 by_asks n line c s (Room room) = says (number_line buffer_word room ++ (10 ∷ [])) (record { table = s.table; room = room })
 by_asks n line c s (Image at) = on_octets n line at true c s
 by_asks n line c s (Call at) = on_octets n line at false c s
 
+unfoldable pub by_command : ℕ → List ℕ → State → OrElse (Option Command) NotUnderstood → Said
+by_command n line s (Ok None) = says [] s
+by_command n line s (Ok (Some c)) = by_asks n line c s (asks_of (length line) c)
+by_command n line s (Err e) = says (not_understood n) s
+
 unfoldable pub answer : ℕ → List ℕ → State → Said
-answer n line s = by_asks n line (commands.command line) s (asks_of (length line) (commands.command line))
+answer n line s = by_command n line s (commands.command line)
 
 -- a line as it was gathered: "`line N too long`"
 unfoldable pub answer_line : ℕ → List ℕ → ℕ → State → Said
 answer_line n line have s = cond (ltb longest have) (says (too_long n) s) (answer n (take have line) s)
 
--- what the code holds from line to line, as a state: the image stands at the front of its space
-abbrev pub bench_state : List ℕ → Held → State
-bench_state space held = record { table = take held.size space; room = held.room }
+-- "`buffer N`, 0 to 300"
+abbrev pub InRoom : Asks → Type 0
+InRoom (Room room) = room ≤ 300
+InRoom (Image at) = Unit {0}
+InRoom (Call at) = Unit {0}
 
--- what the code holds of an answer
-abbrev pub held_of : Said → Held
-held_of d = record { size = length d.state.table; room = d.state.room; written = length d.text }
+-- What is promised of a call that is made: the table afterwards, and the text on the page.
+abbrev pub Makes : Made → List ℕ → List ℕ → Type 0
+Makes m table page = (table ≡ m.table) × Filled 70000 m.text page
 
-abbrev pub Sound : Held → Type 0
-Sound h = (h.size ≤ 300) × ((h.room ≤ 300) × (h.written ≤ 70000))
-
--- What is promised of a call that is made: the table afterwards, and the text at the start of the page.
-abbrev pub Makes : Made → List ℕ → List ℕ → List ℕ → ℕ → Type 0
-Makes m table page after written = (table ≡ m.table) × Filled 70000 page m.text after written
-
--- of one over the image in its space: the image is as long as it was
-abbrev pub MakesCall : Said → ℕ → List ℕ → List ℕ → List ℕ → List ℕ → ℕ → Type 0
-MakesCall said size space image page after written =
-    (image ≡ splice space 0 said.state.table) × ((length said.state.table ≡ size) × Filled 70000 page said.text after written)
-
--- of an answer: what it says of the image and in its text, and what the code holds of both
-abbrev pub AnswersLine : Said → List ℕ → List ℕ → List ℕ → List ℕ → Held → Type 0
-AnswersLine said space image page after held =
-    (image ≡ splice space 0 said.state.table) × ((after ≡ splice page 0 said.text) × ((held ≡ held_of said) × Sound held))
+-- of an answer: its text on the page, and what it leaves for the lines behind it
+abbrev pub AnswersLine : Said → State → List ℕ → Type 0
+AnswersLine said after page = (after ≡ said.state) × Filled 70000 said.text page

@@ -1,3 +1,3 @@
 pub mod Lengths
-mod Paths
+mod Changes
 pub mod Determined

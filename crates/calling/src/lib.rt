@@ -1,82 +1,83 @@
-// Local calls: refused with a number, or ready to send. Nothing is written here.
+// Local calls: refused for a reason, or ready to send. Nothing is written here.
 #![tactic(auto)]
 
 ghost use Rattle.std.specs.Prelude.{◌≡◌};
 ghost use Rattle.calling.specs.Seen.{FindsOpen, length_refusal, DecidesBegin, DecidesInvoke, DecidesResult, DecidesError, DecidesRelease};
 
-use table::{Change, Named};
+use codes::refusals::Refusal;
+use table::Change;
 
-// Refused, or the entry with its change and the operation that the message names.
+// What a call does that is not refused: its entry with the change, and the operation that the message names.
 #[derive(Clone, Copy)]
-pub enum Call {
-    Refused(u8),
-    Goes {
-        entry: u8,
-        change: Change,
-        operation: u8,
-    },
+pub struct Going {
+    pub entry: u8,
+    pub change: Change,
+    pub operation: u8,
 }
 
 // The entry of an open transaction.
-fn find_open(table: &[u8], flag: u8, value: u8) -> Named
+#[tactic(auto, unfolding(crate::specs::Calls::transaction))]
+fn find_open(table: &[u8], flag: u8, value: u8) -> Option<u8>
     ensures { FindsOpen table.now flag value result }
 {
-    let Named::At(k) = table::entry_named(flag, value) else {
-        return Named::Nothing;
-    };
+    let k = table::entry_named(flag, value)?;
     let named = table::read_entry(table, k);
     if !named.open {
-        return Named::Nothing;
+        return None;
     }
-    Named::At(k)
+    Some(k)
 }
 
-// 26 and 27; 0 where a message of so many octets fits.
-fn length_refusal(n: usize, room: usize) -> u8
+// A message of so many octets is too long, or has no room.
+fn length_refusal(n: usize, room: usize) -> Result<(), Refusal>
     ensures { result ≡ length_refusal n room }
 {
     if 255 < n {
-        return 26;
+        return Err(Refusal::MessageTooLong);
     }
     if room < n {
-        return 27;
+        return Err(Refusal::BufferTooShort);
     }
-    0
+    Ok(())
 }
 
-pub fn decide_begin(table: &[u8], room: usize, operation: u8, id: i8, p: &[u8]) -> Call
+// Each call makes its tests in the order of its definition, so a test that several share stands in each of them.
+#[tactic(auto, unfolding(crate::specs::Calls::send_begin, crate::specs::Calls::fitting), using(crate::proofs::Lengths::call_steps))]
+pub fn decide_begin(
+    table: &[u8],
+    room: usize,
+    operation: u8,
+    id: i8,
+    p: &[u8],
+) -> Result<Going, Refusal>
     ensures { DecidesBegin table.now room operation id p.now result }
 {
     if !table::is_valid(table) {
-        return Call::Refused(28);
+        return Err(Refusal::TableDamaged);
     }
     if !codes::operations::is_begun(operation) {
-        return Call::Refused(20);
+        return Err(Refusal::NotListed);
     }
-    let Named::At(v) = table::lowest_closed(table) else {
-        return Call::Refused(21); // no own value closed
-    };
+    let entry = table::lowest_closed(table).ok_or(Refusal::NoValueFree)?;
     if !parameters::suits::suits_invoke_written(operation, p) {
-        return Call::Refused(25);
+        return Err(Refusal::WrongParameter);
     }
     if 255 < p.len() {
-        return Call::Refused(26);
+        return Err(Refusal::MessageTooLong);
     }
-    let refusal = length_refusal(sending::register_length(p.len()), room);
-    if refusal != 0 {
-        return Call::Refused(refusal);
-    }
-    Call::Goes {
-        entry: v,
+    length_refusal(sending::register_length(p.len()), room)?;
+    Ok(Going {
+        entry,
         change: Change::Adds {
             ours: true, // the first of ours
-            id: id,
-            operation: operation,
+            id,
+            operation,
         },
-        operation: operation,
-    }
+        operation,
+    })
 }
 
+#[tactic(auto, unfolding(crate::specs::Calls::send_invoke, crate::specs::Calls::fitting), using(crate::proofs::Lengths::call_steps))]
 pub fn decide_invoke(
     table: &[u8],
     room: usize,
@@ -85,79 +86,74 @@ pub fn decide_invoke(
     operation: u8,
     id: i8,
     p: &[u8],
-) -> Call
+) -> Result<Going, Refusal>
     ensures { DecidesInvoke table.now room flag value operation id p.now result }
 {
     if !table::is_valid(table) {
-        return Call::Refused(28);
+        return Err(Refusal::TableDamaged);
     }
     if !codes::operations::is_begun(operation) {
-        return Call::Refused(20);
+        return Err(Refusal::NotListed);
     }
-    let Named::At(k) = find_open(table, flag, value) else {
-        return Call::Refused(22);
-    };
-    let slot = table::read_entry(table, k);
+    let entry = find_open(table, flag, value).ok_or(Refusal::NotOpen)?;
+    let slot = table::read_entry(table, entry);
     let own = slot.own;
     if sides::is_full(own) | sides::is_among(id, own) {
-        return Call::Refused(23); // four of ours wait, or one with this id
+        return Err(Refusal::StillWaiting); // four of ours wait, or one with this id
     }
     if !parameters::suits::suits_invoke_written(operation, p) {
-        return Call::Refused(25);
+        return Err(Refusal::WrongParameter);
     }
     if 255 < p.len() {
-        return Call::Refused(26);
+        return Err(Refusal::MessageTooLong);
     }
-    let refusal = length_refusal(sending::facility_length(p.len()), room);
-    if refusal != 0 {
-        return Call::Refused(refusal);
-    }
-    Call::Goes {
-        entry: k,
+    length_refusal(sending::facility_length(p.len()), room)?;
+    Ok(Going {
+        entry,
         change: Change::Adds {
             ours: true, // behind the others
-            id: id,
-            operation: operation,
+            id,
+            operation,
         },
-        operation: operation,
-    }
+        operation,
+    })
 }
 
-pub fn decide_result(table: &[u8], room: usize, flag: u8, value: u8, id: i8, p: &[u8]) -> Call
+#[tactic(auto, unfolding(crate::specs::Calls::send_result, crate::specs::Calls::fitting), using(crate::proofs::Lengths::call_steps))]
+pub fn decide_result(
+    table: &[u8],
+    room: usize,
+    flag: u8,
+    value: u8,
+    id: i8,
+    p: &[u8],
+) -> Result<Going, Refusal>
     ensures { DecidesResult table.now room flag value id p.now result }
 {
     if !table::is_valid(table) {
-        return Call::Refused(28);
+        return Err(Refusal::TableDamaged);
     }
-    let Named::At(k) = find_open(table, flag, value) else {
-        return Call::Refused(22);
-    };
-    let slot = table::read_entry(table, k);
-    let peer = slot.peer;
-    let answered = sides::operation_of(id, peer);
-    if answered == 0 {
-        return Call::Refused(24); // no such peer invoke
-    }
+    let entry = find_open(table, flag, value).ok_or(Refusal::NotOpen)?;
+    let slot = table::read_entry(table, entry);
+    let answered = sides::operation_of(id, slot.peer).ok_or(Refusal::NoSuchInvoke)?;
     if !parameters::suits::suits_result_written(answered, p) {
-        return Call::Refused(25); // parameter of the result
+        return Err(Refusal::WrongParameter); // parameter of the result
     }
     if 255 < p.len() {
-        return Call::Refused(26);
+        return Err(Refusal::MessageTooLong);
     }
-    let refusal = length_refusal(sending::facility_answer_length(p.len()), room);
-    if refusal != 0 {
-        return Call::Refused(refusal);
-    }
-    Call::Goes {
-        entry: k,
+    length_refusal(sending::facility_answer_length(p.len()), room)?;
+    Ok(Going {
+        entry,
         change: Change::Clears {
             ours: false, // answered by a result
-            id: id,
+            id,
         },
         operation: answered,
-    }
+    })
 }
 
+#[tactic(auto, unfolding(crate::specs::Calls::send_error, crate::specs::Calls::fitting), using(crate::proofs::Lengths::call_steps))]
 pub fn decide_error(
     table: &[u8],
     room: usize,
@@ -166,58 +162,51 @@ pub fn decide_error(
     id: i8,
     code: u8,
     p: &[u8],
-) -> Call
+) -> Result<Going, Refusal>
     ensures { DecidesError table.now room flag value id code p.now result }
 {
     if !table::is_valid(table) {
-        return Call::Refused(28);
+        return Err(Refusal::TableDamaged);
     }
     if !codes::errors::is_listed(code) {
-        return Call::Refused(20); // error code not listed
+        return Err(Refusal::NotListed); // error code not listed
     }
-    let Named::At(k) = find_open(table, flag, value) else {
-        return Call::Refused(22);
-    };
-    let slot = table::read_entry(table, k);
-    let peer = slot.peer;
-    if !sides::is_among(id, peer) {
-        return Call::Refused(24);
+    let entry = find_open(table, flag, value).ok_or(Refusal::NotOpen)?;
+    let slot = table::read_entry(table, entry);
+    if !sides::is_among(id, slot.peer) {
+        return Err(Refusal::NoSuchInvoke);
     }
     if !parameters::suits::is_none_or_one(p) {
-        return Call::Refused(25);
+        return Err(Refusal::WrongParameter);
     }
     if 255 < p.len() {
-        return Call::Refused(26);
+        return Err(Refusal::MessageTooLong);
     }
-    let refusal = length_refusal(sending::facility_length(p.len()), room);
-    if refusal != 0 {
-        return Call::Refused(refusal);
-    }
-    Call::Goes {
-        entry: k,
+    length_refusal(sending::facility_length(p.len()), room)?;
+    Ok(Going {
+        entry,
         change: Change::Clears {
             ours: false, // answered by an error
-            id: id,
+            id,
         },
         operation: 0,
-    }
+    })
 }
 
-pub fn decide_release(table: &[u8], room: usize, flag: u8, value: u8) -> Call
+#[tactic(auto, unfolding(crate::specs::Calls::send_release, crate::specs::Calls::fitting), using(crate::proofs::Lengths::call_steps))]
+pub fn decide_release(table: &[u8], room: usize, flag: u8, value: u8) -> Result<Going, Refusal>
     ensures { DecidesRelease table.now room flag value result }
 {
     if !table::is_valid(table) {
-        return Call::Refused(28);
+        return Err(Refusal::TableDamaged);
     }
-    let Named::At(k) = find_open(table, flag, value) else {
-        return Call::Refused(22);
-    };
+    let entry = find_open(table, flag, value).ok_or(Refusal::NotOpen)?;
     if room < 2 {
-        return Call::Refused(27);
+        return Err(Refusal::BufferTooShort);
     }
-    Call::Goes {
-        entry: k,
+    Ok(Going {
+        entry,
         change: Change::Closes,
         operation: 0,
-    }
+    })
 }

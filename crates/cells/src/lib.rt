@@ -88,7 +88,7 @@ fn give(text: &mut [u16], lines: &mut [u8], walk: Walk, code: u16, writes: bool)
     Walk {
         row: left_of(over),
         characters: walk.characters + 1,
-        ended: ended,
+        ended,
     }
 }
 
@@ -115,6 +115,7 @@ fn turn(
 }
 
 // Goes through the septets of a string once: how many characters they are, and how many lines; and writes both, if it is to.
+// One walk for both turns, told by a flag, so that it stands in the archive once.
 fn lay(string: &[u8], text: &mut [u16], lines: &mut [u8], writes: bool) -> Extent
     requires { writes ≡ true → (length (string_text string.now) ≤ length text.old) × (2 * length (lines_of (string_text string.now)) ≤ length lines.old) }
     ensures extent { result ≡ extent_of string.now }
@@ -127,15 +128,13 @@ fn lay(string: &[u8], text: &mut [u16], lines: &mut [u8], writes: bool) -> Exten
         characters: 0,
         ended: 0,
     };
-    let mut at = 0;
     let mut carried = 0;
     let mut escaped = false;
-    while at < count {
+    for at in 0..count {
         let bits = bits_at(string, at, carried);
         let septet = (bits % 128) as u8;
         carried = bits / 128;
-        at += 1;
-        let waits = !escaped & (septet == 0x1B) & (at < count);
+        let waits = !escaped & (septet == 0x1B) & (at + 1 < count);
         walk = turn(text, lines, walk, escaped, septet, waits, writes);
         escaped = waits;
     }
@@ -155,7 +154,7 @@ fn refused(code: u8) -> Laid
     ensures { result ≡ refused_laid code }
 {
     Laid {
-        code: code,
+        code,
         characters: 0,
         lines: 0,
     }

@@ -23,13 +23,10 @@ pub fn grow(row: Row, character: u16) -> Row
 {
     let width = row.width + 1;
     if character == 0x20 {
-        return Row {
-            width: width,
-            kept: width,
-        };
+        return Row { width, kept: width };
     }
     Row {
-        width: width,
+        width,
         kept: row.kept,
     }
 }

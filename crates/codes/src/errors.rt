@@ -5,10 +5,7 @@ ghost use Rattle.codes.specs.Errors.{listed, may_return, of_service, is_in, regi
 pub fn is_listed(code: u8) -> bool
     ensures { result ≡ listed code }
 {
-    match code {
-        1 | 9..=13 | 16..=21 | 27 | 34..=38 | 43 | 71..=72 => true,
-        _ => false,
-    }
+    matches!(code, 1 | 9..=13 | 16..=21 | 27 | 34..=38 | 43 | 71..=72)
 }
 
 // An error of 10 to 14, the operations on a service: most are shared by all five.
@@ -19,14 +16,8 @@ fn is_of_service(operation: u8, code: u8) -> bool
         10..=11 | 13 | 16 | 34..=36 => true,
         17 => operation != 14,
         18 => operation == 14,
-        19 | 38 | 43 => match operation {
-            12..=13 => true,
-            _ => false,
-        },
-        20 => match operation {
-            10 | 12 => true,
-            _ => false,
-        },
+        19 | 38 | 43 => matches!(operation, 12..=13),
+        20 => matches!(operation, 10 | 12),
         _ => false,
     }
 }
@@ -34,19 +25,13 @@ fn is_of_service(operation: u8, code: u8) -> bool
 fn is_of_password(code: u8) -> bool
     ensures { result ≡ is_in code register_password-errors }
 {
-    match code {
-        13 | 19 | 34..=38 | 43 => true,
-        _ => false,
-    }
+    matches!(code, 13 | 19 | 34..=38 | 43)
 }
 
 fn is_of_ussd(code: u8) -> bool
     ensures { result ≡ is_in code process_unstructured_ss_request_errors }
 {
-    match code {
-        13 | 34..=36 | 71 => true,
-        _ => false,
-    }
+    matches!(code, 13 | 34..=36 | 71)
 }
 
 // Whether the operation may return the error.

@@ -5,19 +5,11 @@ ghost use Rattle.codes.specs.Ids.{id_of, octet_of};
 pub fn id_of(octet: u8) -> i8
     ensures { result ≡ id_of octet }
 {
-    if octet < 128 {
-        octet as i8
-    } else {
-        !((255 - octet) as i8)
-    }
+    octet.cast_signed()
 }
 
 pub fn octet_of(id: i8) -> u8
     ensures { result ≡ octet_of id }
 {
-    if id < 0 {
-        255 - ((!id) as u8)
-    } else {
-        id as u8
-    }
+    id.cast_unsigned()
 }

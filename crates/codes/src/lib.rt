@@ -4,3 +4,4 @@
 pub mod errors;
 pub mod ids;
 pub mod operations;
+pub mod refusals;

@@ -5,26 +5,17 @@ ghost use Rattle.codes.specs.Operations.{begins, serves, waits};
 pub fn is_begun(operation: u8) -> bool
     ensures { result ≡ begins operation }
 {
-    match operation {
-        10..=14 | 17 | 59 => true,
-        _ => false,
-    }
+    matches!(operation, 10..=14 | 17 | 59)
 }
 
 pub fn is_waited_for(operation: u8) -> bool
     ensures { result ≡ waits operation }
 {
-    match operation {
-        18 | 60..=61 => true,
-        _ => false,
-    }
+    matches!(operation, 18 | 60..=61)
 }
 
 pub fn is_served(operation: u8) -> bool
     ensures { result ≡ serves operation }
 {
-    match operation {
-        18 | 38 | 60..=61 => true,
-        _ => false,
-    }
+    matches!(operation, 18 | 38 | 60..=61)
 }

@@ -1,128 +1,84 @@
 // What stands behind the id of each kind of component, and the whole of a Reject.
-ghost use Rattle.std.specs.Prelude.{◌≡◌};
 ghost use Rattle.components.specs.Component.{invoke_of, result_of, error_of, reject_of};
-ghost use Rattle.components.specs.Seen.{ReadsKind, kind_fault};
+ghost use Rattle.components.specs.Seen.{ReadsKind};
 
-use super::shown::{Operation, Shown};
-use elements::Found;
-use places::{Calls, Code, Last, Rejected};
-
-#[derive(Clone, Copy)]
-pub enum Kind {
-    Fault(u8),
-    Is(Shown),
-}
-
-pub fn kind_fault(kind: Kind) -> u8
-    ensures { result ≡ kind_fault kind }
-{
-    match kind {
-        Kind::Fault(n) => n,
-        Kind::Is(_) => 0,
-    }
-}
+use super::shown::Shown;
+use places::problems::Problem;
 
 // What follows the id of an Invoke.
-pub fn read_invoke(s: &[u8], id: i8) -> Kind
+#[tactic(auto, unfolding(crate::specs::Component::invoke_of))]
+pub fn read_invoke(s: &[u8], id: i8) -> Result<Shown, Problem>
     ensures { ReadsKind (invoke_of id s.now) s.now result }
 {
-    let calls = places::read_calls(s);
-    let Calls::Is {
-        linked,
-        operation,
-        end,
-    } = calls
-    else {
-        return Kind::Fault(places::calls_fault(calls));
-    };
-    let last = places::read_last(&s[end..]);
-    let Last::Parameter = last else {
-        return Kind::Fault(places::last_fault(last));
-    };
-    Kind::Is(Shown::Invoke {
-        id: id,
-        linked: linked,
-        operation: operation,
-        parameter: s.len() - end,
+    let calls = places::read_calls(s)?;
+    places::read_last(&s[calls.end..])?;
+    Ok(Shown::Invoke {
+        id,
+        linked: calls.linked,
+        operation: calls.operation,
+        parameter: s.len() - calls.end,
     })
 }
 
 // What follows the id of a Return error.
-pub fn read_error(s: &[u8], id: i8) -> Kind
+#[tactic(auto, unfolding(crate::specs::Component::error_of))]
+pub fn read_error(s: &[u8], id: i8) -> Result<Shown, Problem>
     ensures { ReadsKind (error_of id s.now) s.now result }
 {
-    let code = places::read_coded(s);
-    let Code::Is { octet, parameter } = code else {
-        return Kind::Fault(places::code_fault(code));
-    };
-    Kind::Is(Shown::Error {
-        id: id,
-        code: octet,
-        parameter: parameter,
+    let coded = places::read_coded(s)?;
+    Ok(Shown::Error {
+        id,
+        code: coded.octet,
+        parameter: coded.parameter,
     })
 }
 
 // What follows the id of a Return result: nothing, or the 30 and nothing behind it.
-pub fn read_result(s: &[u8], id: i8) -> Kind
+#[tactic(auto, using(places::proofs::Left::left_some, places::proofs::Left::last_end), unfolding(crate::specs::Component::result_of))]
+pub fn read_result(s: &[u8], id: i8) -> Result<Shown, Problem>
     ensures { ReadsKind (result_of id s.now) s.now result }
 {
-    if s.len() == 0 {
-        return Kind::Is(Shown::Result {
-            id: id,
-            operation: Operation::Absent,
+    if s.is_empty() {
+        return Ok(Shown::Result {
+            id,
+            operation: None,
             parameter: 0,
         });
     }
-    let found = elements::read_element(s);
-    let Found::Whole { tag, start, end } = found else {
-        return Kind::Fault(places::problem_of(found));
-    };
-    if tag != 0x30 {
-        return Kind::Fault(1);
+    let element = elements::read_element(s)?;
+    if element.tag != 0x30 {
+        return Err(Problem::MistypedComponent);
     }
-    let code = places::read_coded(&s[start..end]);
-    let Code::Is { octet, parameter } = code else {
-        return Kind::Fault(places::code_fault(code));
-    };
-    if end != s.len() {
-        return Kind::Fault(1);
+    let coded = places::read_coded(&s[element.start..element.end])?;
+    if element.end != s.len() {
+        return Err(Problem::MistypedComponent);
     }
-    Kind::Is(Shown::Result {
-        id: id,
-        operation: Operation::Is(octet),
-        parameter: parameter,
+    Ok(Shown::Result {
+        id,
+        operation: Some(coded.octet),
+        parameter: coded.parameter,
     })
 }
 
 // The contents of a Reject.
-pub fn read_reject(s: &[u8]) -> Kind
+#[tactic(auto, using(places::proofs::Left::left_some), unfolding(crate::specs::Component::reject_of))]
+pub fn read_reject(s: &[u8]) -> Result<Shown, Problem>
     ensures { ReadsKind (reject_of s.now) s.now result }
 {
-    let rejected = places::read_rejected(s);
-    let Rejected::Is { id, end } = rejected else {
-        return Kind::Fault(places::rejected_fault(rejected));
-    };
-    let found = elements::read_element(&s[end..]);
-    let Found::Whole {
-        tag,
-        start,
-        end: last,
-    } = found
-    else {
-        return Kind::Fault(places::problem_of(found));
-    };
-    if last != s.len() - end {
-        return Kind::Fault(1);
+    let rejected = places::read_rejected(s)?;
+    let element = elements::read_element(&s[rejected.end..])?;
+    if element.end != s.len() - rejected.end {
+        return Err(Problem::MistypedComponent);
     }
-    if !((0x80 <= tag) & (tag <= 0x83)) {
-        return Kind::Fault(1);
+    if !matches!(element.tag, 0x80..=0x83) {
+        return Err(Problem::MistypedComponent);
     }
-    if last - start != 1 {
-        return Kind::Fault(1);
+    if element.end - element.start != 1 {
+        return Err(Problem::MistypedComponent);
     }
-    Kind::Is(Shown::Reject {
-        id: id,
-        tag: tag,
-        problem: s[end + start],
+    Ok(Shown::Reject {
+        id: rejected.id,
+        tag: element.tag,
+        problem: s[rejected.end + element.start],
     })
 }

@@ -2,25 +2,17 @@
 ghost use Rattle.std.specs.Prelude.{◌≡◌};
 ghost use Rattle.components.specs.Seen.{parameter_length};
 
-use places::Id;
-
-#[derive(Clone, Copy)]
-pub enum Operation {
-    Absent,
-    Is(u8),
-}
-
 #[derive(Clone, Copy)]
 pub enum Shown {
     Invoke {
         id: i8,
-        linked: Id,
+        linked: Option<i8>,
         operation: u8,
         parameter: usize,
     },
     Result {
         id: i8,
-        operation: Operation,
+        operation: Option<u8>,
         parameter: usize,
     },
     Error {
@@ -28,46 +20,24 @@ pub enum Shown {
         code: u8,
         parameter: usize,
     },
+    // octets, since a Reject that is read may carry any problem
     Reject {
-        id: Id,
+        id: Option<i8>,
         tag: u8,
         problem: u8,
     },
 }
 
-// How many octets the parameter takes, at the end of the Facility value.
-pub fn parameter_length(shown: Shown) -> usize
-    ensures { result ≡ parameter_length shown }
-{
-    match shown {
-        Shown::Invoke {
-            id: _,
-            linked: _,
-            operation: _,
-            parameter,
-        } => {
-            return parameter;
-        }
-        Shown::Result {
-            id: _,
-            operation: _,
-            parameter,
-        } => {
-            return parameter;
-        }
-        Shown::Error {
-            id: _,
-            code: _,
-            parameter,
-        } => {
-            return parameter; // of an error
-        }
-        Shown::Reject {
-            id: _,
-            tag: _,
-            problem: _,
-        } => {
-            return 0;
+impl Shown {
+    // How many octets the parameter takes, at the end of the Facility value.
+    pub fn parameter_length(self) -> usize
+        ensures { result ≡ parameter_length self }
+    {
+        match self {
+            Shown::Invoke { parameter, .. }
+            | Shown::Result { parameter, .. }
+            | Shown::Error { parameter, .. } => parameter,
+            Shown::Reject { .. } => 0,
         }
     }
 }

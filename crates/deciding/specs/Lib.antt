@@ -1,3 +1,4 @@
 pub mod Decision
+pub mod Numbers
 pub mod Steps
 pub mod Seen

@@ -6,67 +6,69 @@ ghost use Rattle.octets.specs.Splice.{splice};
 ghost use Rattle.elements.specs.Element.{row, shortest, header};
 ghost use Rattle.elements.specs.Found.{ReadsLength, ReadsElement};
 
+// How many octets of contents follow, and how many octets said so.
 #[derive(Clone, Copy)]
-pub enum Length {
-    Unreadable,
-    Is { octets: usize, taken: usize },
+pub struct Length {
+    pub octets: usize,
+    pub taken: usize,
 }
 
-// Of a whole element: its tag, and the places where its contents start and end. The header's length is the start.
+// A whole element: its tag, and the places where its contents start and end. The header's length is the start.
 #[derive(Clone, Copy)]
-pub enum Found {
+pub struct Element {
+    pub tag: u8,
+    pub start: usize,
+    pub end: usize,
+}
+
+// Why no whole element stands at the front of a part.
+#[derive(Clone, Copy, Debug, PartialEq, Eq)]
+pub enum Fault {
     Missing,
     Unreadable,
-    Whole { tag: u8, start: usize, end: usize },
-}
-
-fn wide(x: u8) -> usize
-    ensures { result ≡ x }
-{
-    x as usize
 }
 
 // The length at the front of a part, in any form that is read.
-pub fn read_length(s: &[u8]) -> Length
+pub fn read_length(s: &[u8]) -> Option<Length>
     ensures { ReadsLength s.now result }
 {
     if s.len() < 1 {
-        return Length::Unreadable;
+        return None;
     }
     let first = s[0];
     if first < 0x80 {
-        return Length::Is {
-            octets: wide(first),
+        return Some(Length {
+            octets: first as usize,
             taken: 1,
-        };
+        });
     }
     if first == 0x81 {
         if s.len() < 2 {
-            return Length::Unreadable;
+            return None;
         }
-        return Length::Is {
-            octets: wide(s[1]),
+        return Some(Length {
+            octets: s[1] as usize,
             taken: 2,
-        };
+        });
     }
     if first != 0x82 {
-        return Length::Unreadable;
+        return None;
     }
     if s.len() < 3 {
-        return Length::Unreadable;
+        return None;
     }
-    Length::Is {
+    Some(Length {
         octets: (s[1] as usize) * 256 + (s[2] as usize),
         taken: 3,
-    }
+    })
 }
 
 // The element at the front of a part.
-pub fn read_element(s: &[u8]) -> Found
+pub fn read_element(s: &[u8]) -> Result<Element, Fault>
     ensures { ReadsElement s.now result }
 {
     if s.len() < 1 {
-        return Found::Missing;
+        return Err(Fault::Missing);
     }
     let tag = s[0];
     // ranges: a short test of the low five bits would let the compiler copy all this into each of the twelve callers
@@ -79,39 +81,32 @@ pub fn read_element(s: &[u8]) -> Found
         | 0xA0..=0xBE
         | 0xC0..=0xDE
         | 0xE0..=0xFE => {}
-        _ => {
-            return Found::Unreadable;
-        }
+        _ => return Err(Fault::Unreadable),
     }
-    let Length::Is { octets, taken } = read_length(&s[1..]) else {
-        return Found::Unreadable;
+    let Some(length) = read_length(&s[1..]) else {
+        return Err(Fault::Unreadable);
     };
-    let start = 1 + taken;
-    if s.len() - start < octets {
-        return Found::Unreadable;
+    let start = 1 + length.taken;
+    if s.len() - start < length.octets {
+        return Err(Fault::Unreadable);
     }
-    Found::Whole {
-        tag: tag,
-        start: start,
-        end: start + octets,
-    }
+    Ok(Element {
+        tag,
+        start,
+        end: start + length.octets,
+    })
 }
 
 // Whether a part is a row of zero or more elements, and nothing else.
 pub fn is_row(s: &[u8]) -> bool
     ensures { result ≡ row s.now }
 {
-    let mut i = 0;
-    while i < s.len() {
-        let Found::Whole {
-            tag: _,
-            start: _,
-            end,
-        } = read_element(&s[i..])
-        else {
+    let mut rest = s;
+    while !rest.is_empty() {
+        let Ok(element) = read_element(rest) else {
             return false;
         };
-        i += end;
+        rest = &rest[element.end..];
     }
     true
 }

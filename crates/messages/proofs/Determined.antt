@@ -12,25 +12,27 @@ use Rattle.octets.proofs.ReaderLaws.{sound-inj}
 use Rattle.messages.specs.Scan.{Information}
 use Rattle.messages.specs.Seen.{item_seen, ItemWithin}
 use Rattle.messages.specs.declared.scan.Item.{Item}
+use Rattle.messages.specs.declared.scan.Ending.{Ending}
+use Rattle.std.specs.Prelude.{Result, Ok, Err}
 use Rattle.messages.specs.Layout.{release_type, facility_type}
 use Rattle.messages.specs.Types.{number_of}
 use Rattle.messages.specs.declared.layout.MessageType.{MessageType}
 use Rattle.messages.specs.declared.layout.MessageType.TheVariants.{ReleaseComplete, Facility, Register, Unknown}
 
-pub item-determined : (s : List ℕ) (r q : Item) → ItemWithin s r → ItemWithin s q → item_seen s r ≡ item_seen s q → r ≡ q
-item-determined s Item.End Item.End a b e = refl
-item-determined s Item.End Item.Cut a b e = absurd (omega arith)
-item-determined s Item.End (Item.Whole m i j) a b e = cc
-item-determined s Item.Cut Item.End a b e = absurd (omega arith)
-item-determined s Item.Cut Item.Cut a b e = refl
-item-determined s Item.Cut (Item.Whole m i j) a b e = cc
-item-determined s (Item.Whole m i j) Item.End a b e = cc
-item-determined s (Item.Whole m i j) Item.Cut a b e = cc
-item-determined s (Item.Whole m i j) (Item.Whole w k l) a b e =
+pub item-determined : (s : List ℕ) (r q : Result Item Ending) → ItemWithin s r → ItemWithin s q → item_seen s r ≡ item_seen s q → r ≡ q
+item-determined s (Err Ending.End) (Err Ending.End) a b e = refl
+item-determined s (Err Ending.End) (Err Ending.Cut) a b e = absurd (omega arith)
+item-determined s (Err Ending.End) (Ok i) a b e = cc
+item-determined s (Err Ending.Cut) (Err Ending.End) a b e = absurd (omega arith)
+item-determined s (Err Ending.Cut) (Err Ending.Cut) a b e = refl
+item-determined s (Err Ending.Cut) (Ok i) a b e = cc
+item-determined s (Ok i) (Err Ending.End) a b e = cc
+item-determined s (Ok i) (Err Ending.Cut) a b e = cc
+item-determined s (Ok i) (Ok j) a b e =
     let g = sound-inj e in
-    let x : j ≡ l = omega (arith, simp length-drop at (ap (λ (h : Taken Information). length h.rest) g)) in
-    let y : i ≡ k = omega (arith, simp (length-take, length-drop) at (ap (λ (h : Taken Information). length h.value.contents) g)) in
-    λ n. Item.Whole (g n).value.identifier (y n) (x n)
+    let x : i.end ≡ j.end = omega (arith, simp length-drop at (ap (λ (h : Taken Information). length h.rest) g)) in
+    let y : i.start ≡ j.start = omega (arith, simp (length-take, length-drop) at (ap (λ (h : Taken Information). length h.value.contents) g)) in
+    λ n. Ok (record { identifier = (g n).value.identifier; start = y n; end = x n })
 
 -- a type is told by its number
 abbrev back : Option ℕ → MessageType

@@ -1,18 +1,11 @@
--- An answer that is not `Whole` is a fault of the definition. The code's `let .. else` leaves it so.
-use Prim.Native.Nat.{ℕ}
-use mathlib.Core.Path.{◌≡◌, sym}
-use mathlib.Core.List.{List, [], ◌∷◌}
-use mathlib.Core.Logic.{⊎_elim}
-use native.Mathlib.Omega.{arith}
-use borrow.Enum.Refused.{Among, opened}
-use denote.Enum.Declared.{tag_of}
+-- An answer that is no whole element is a fault of the definition.
+use Rattle.std.proofs.Common.{ℕ, ◌≡◌, List, sym}
+use Rattle.std.specs.Prelude.{Err}
 use Rattle.octets.specs.Reader.{fault}
 use Rattle.messages.specs.Scan.{absent, cut, information}
 use Rattle.messages.specs.Seen.{item_seen}
-use Rattle.messages.specs.declared.scan.Item.{Item}
-use Rattle.messages.specs.contracts.scan.Item.{the_type}
+use Rattle.messages.specs.declared.scan.Ending.{Ending}
 
-pub not-whole : (r : Item) (s : List ℕ) → Among (0 ∷ 1 ∷ []) (tag_of the_type r) → item_seen s r ≡ information s → (n : ℕ) × (information s ≡ fault n)
-not-whole Item.End s k e = (absent, sym e)
-not-whole Item.Cut s k e = (cut, sym e)
-not-whole (Item.Whole i a b) s k e = absurd (⊎_elim (λ z. omega arith) (λ z. omega arith) (opened k))
+pub not-whole : (e : Ending) (s : List ℕ) → item_seen s (Err e) ≡ information s → (n : ℕ) × (information s ≡ fault n)
+not-whole Ending.End s q = (absent, sym q)
+not-whole Ending.Cut s q = (cut, sym q)

@@ -19,6 +19,6 @@ number_of Facility = some facility_type
 number_of Register = some register_type
 number_of Unknown = none
 
--- what `type_of` promises
+-- what the making of a type from an octet promises
 abbrev pub TellsType : ℕ → MessageType → Type 0
 TellsType octet type = number_of type ≡ type_told octet

@@ -4,10 +4,10 @@ ghost use Rattle.messages.specs.Layout.{discriminator, value, flag, sent_first};
 ghost use Rattle.messages.specs.Types.{TellsType};
 ghost use Rattle.messages.specs.Seen.{ReadsSized, ReadsMandatory};
 
-use octets::MaybePart;
+use octets::Span;
 
 // What octet 2 tells, compared whole.
-#[derive(Clone, Copy)]
+#[derive(Clone, Copy, Debug, PartialEq, Eq)]
 pub enum MessageType {
     ReleaseComplete,
     Facility,
@@ -15,14 +15,17 @@ pub enum MessageType {
     Unknown,
 }
 
-pub fn type_of(octet: u8) -> MessageType
-    ensures { TellsType octet result }
-{
-    match octet {
-        0x2A => MessageType::ReleaseComplete,
-        0x3A => MessageType::Facility,
-        0x3B => MessageType::Register,
-        0x00..=0x29 | 0x2B..=0x39 | 0x3C..=0xFF => MessageType::Unknown,
+// By ranges, each of the 256 named.
+impl From<u8> for MessageType {
+    ghost from_gives = { TellsType };
+
+    fn from(octet: u8) -> MessageType {
+        match octet {
+            0x2A => MessageType::ReleaseComplete,
+            0x3A => MessageType::Facility,
+            0x3B => MessageType::Register,
+            0x00..=0x29 | 0x2B..=0x39 | 0x3C..=0xFF => MessageType::Unknown,
+        }
     }
 }
 
@@ -53,40 +56,34 @@ pub fn sent_first(flag: u8, value: u8) -> u8
 }
 
 // A length of one plain octet, and so many octets.
-fn read_sized(s: &[u8]) -> MaybePart
+#[tactic(auto, using(crate::proofs::Paths::reading), unfolding(crate::specs::Layout::sized))]
+fn read_sized(s: &[u8]) -> Option<Span>
     ensures { ReadsSized s.now result }
 {
-    if s.len() < 1 {
-        return MaybePart::Nothing;
-    }
-    let n = s[0] as usize;
+    let n = *s.first()? as usize;
     if s.len() - 1 < n {
-        return MaybePart::Nothing;
+        return None;
     }
-    MaybePart::Between {
+    Some(Span {
         start: 1,
         end: 1 + n,
-    }
+    })
 }
 
-// The Facility value that must stand behind the type.
-pub fn read_mandatory(s: &[u8], kind: u8) -> MaybePart
+// The Facility value that must stand behind the type. The type is its octet: a MessageType would ask more of the caller.
+#[tactic(auto, using(crate::proofs::Paths::reading), unfolding(crate::specs::Layout::mandatory))]
+pub fn read_mandatory(s: &[u8], kind: u8) -> Option<Span>
     ensures { ReadsMandatory kind s.now result }
 {
     if kind != 0x3B {
         return read_sized(s);
     }
-    if s.len() < 1 {
-        return MaybePart::Nothing;
+    if *s.first()? != 0x1C {
+        return None;
     }
-    if s[0] != 0x1C {
-        return MaybePart::Nothing;
-    }
-    let MaybePart::Between { start, end } = read_sized(&s[1..]) else {
-        return MaybePart::Nothing;
-    };
-    MaybePart::Between {
-        start: 1 + start,
-        end: 1 + end,
-    }
+    let value = read_sized(&s[1..])?;
+    Some(Span {
+        start: 1 + value.start,
+        end: 1 + value.end,
+    })
 }

@@ -3,114 +3,101 @@ ghost use Rattle.std.specs.Prelude.{◌≡◌};
 ghost use Rattle.messages.specs.Scan.{clear};
 ghost use Rattle.messages.specs.Seen.{ReadsItem, ReadsRequired, FindsFirst};
 
-use octets::MaybePart;
+use octets::Span;
 
+// A whole information element, and the places where its contents start and end.
 #[derive(Clone, Copy)]
-pub enum Item {
+pub struct Item {
+    pub identifier: u8,
+    pub start: usize,
+    pub end: usize,
+}
+
+// Why a scan goes no further: nothing is left, or what is left is cut.
+#[derive(Clone, Copy, Debug, PartialEq, Eq)]
+pub enum Ending {
     End,
     Cut,
-    Whole {
-        identifier: u8,
-        start: usize,
-        end: usize,
-    },
 }
 
 // The information element at the front of a part.
-pub fn read_item(s: &[u8]) -> Item
+#[tactic(auto, using(crate::proofs::Paths::reading), unfolding(crate::specs::Scan::information))]
+pub fn read_item(s: &[u8]) -> Result<Item, Ending>
     ensures { ReadsItem s.now result }
 {
-    if s.len() < 1 {
-        return Item::End;
+    if s.is_empty() {
+        return Err(Ending::End);
     }
     let identifier = s[0];
     if 0x80 <= identifier {
-        return Item::Whole {
-            identifier: identifier,
+        return Ok(Item {
+            identifier,
             start: 1,
             end: 1,
-        };
+        });
     }
     if s.len() < 2 {
-        return Item::Cut;
+        return Err(Ending::Cut);
     }
     let n = s[1] as usize;
     if s.len() - 2 < n {
-        return Item::Cut;
+        return Err(Ending::Cut);
     }
-    Item::Whole {
-        identifier: identifier,
+    Ok(Item {
+        identifier,
         start: 2,
         end: 2 + n,
-    }
+    })
 }
 
 // Whether the scan meets no identifier from 00 to 0F: it is left with cause 96, at a cut end, or when all is scanned.
+#[tactic(auto, using(crate::proofs::Paths::scanning))]
 pub fn is_clear(s: &[u8]) -> bool
     ensures { result ≡ clear s.now }
 {
-    let mut i = 0;
-    let mut clear = true;
+    let mut rest = s;
     loop {
-        if s.len() <= i {
-            break;
+        if rest.is_empty() {
+            break true;
         }
-        if s[i] < 0x10 {
-            clear = false;
-            break;
+        if rest[0] < 0x10 {
+            break false;
         }
-        let Item::Whole {
-            identifier: _,
-            start: _,
-            end,
-        } = read_item(&s[i..])
-        else {
-            break;
+        let Ok(item) = read_item(rest) else {
+            break true;
         };
-        i += end;
+        rest = &rest[item.end..];
     }
-    clear
 }
 
-// The contents of the first whole element with this identifier.
-pub fn find(s: &[u8], identifier: u8) -> MaybePart
+// The contents of the first whole element with this identifier: their place in all of the part, so that is counted.
+#[tactic(auto, using(crate::proofs::Paths::scanning))]
+pub fn find(s: &[u8], identifier: u8) -> Option<Span>
     ensures { FindsFirst identifier s.now result }
 {
     let mut at = 0;
     loop {
-        let Item::Whole {
-            identifier: met,
-            start,
-            end,
-        } = read_item(&s[at..])
-        else {
-            break;
+        let Ok(item) = read_item(&s[at..]) else {
+            break None;
         };
-        if met == identifier {
-            let from = at + start;
-            let to = at + end;
-            return MaybePart::Between {
-                start: from,
-                end: to,
-            };
+        if item.identifier == identifier {
+            break Some(Span {
+                start: at + item.start,
+                end: at + item.end,
+            });
         }
-        at += end;
+        at += item.end;
     }
-    MaybePart::Nothing
 }
 
 // Step 4: the Facility value, if nothing behind it must be understood.
-pub fn read_required(s: &[u8], kind: u8) -> MaybePart
+#[tactic(auto, using(crate::proofs::Paths::reading), unfolding(crate::specs::Scan::required))]
+pub fn read_required(s: &[u8], kind: u8) -> Option<Span>
     ensures { ReadsRequired kind s.now result }
 {
-    let MaybePart::Between { start, end } = super::layout::read_mandatory(s, kind) else {
-        return MaybePart::Nothing;
-    };
-    if !is_clear(&s[end..]) {
-        return MaybePart::Nothing;
+    let value = super::layout::read_mandatory(s, kind)?;
+    if !is_clear(&s[value.end..]) {
+        return None;
     }
-    MaybePart::Between {
-        start: start,
-        end: end,
-    }
+    Some(value)
 }

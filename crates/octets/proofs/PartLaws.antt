@@ -6,8 +6,9 @@ use native.Mathlib.Omega.{arith}
 use native.Mathlib.Nat.{sub-zero}
 use lib.ListN.{length, take, drop, get_or, length-take, length-drop, drop_of_length-le}
 use mathlib.Core.Bool.{Bool, true, false}
+use Rattle.std.specs.Prelude.{◌==◌}
 use lib.Dec.{leb}
-use borrow.Author.Tests.{leb-true, leb-false}
+use borrow.Author.Tests.{leb-true, leb-false, eqb-true}
 use lib.Seq.{take_all, take-nil, drop-nil, get_or-take, get_or-drop}
 use Rattle.octets.specs.Part.{between}
 
@@ -65,3 +66,12 @@ clamped from to s = go (leb from (min to (length s))) refl (leb to (length s)) r
         outside : (d : Bool) → leb to (length s) ≡ d → between from to s ≡ []
         outside true r = let l = leb-false from (min to (length s)) p in let h = leb-true to (length s) r in none_between from to s (omega arith)
         outside false r = let l = leb-false from (min to (length s)) p in let h = leb-false to (length s) r in past_end from to s (omega arith)
+
+-- `rest.is_empty()`
+pub left_over : (s : List ℕ) → false ≡ (length s == 0) → 0 < length s
+left_over [] e = cc
+left_over (a ∷ s) e = omega arith
+
+pub none_left : (s : List ℕ) → true ≡ (length s == 0) → s ≡ []
+none_left [] e = refl
+none_left (a ∷ s) e = absurd (omega (arith, eqb-true (length (a ∷ s)) 0 (sym e)))

@@ -15,6 +15,9 @@ use Rattle.octets.proofs.OctetsLaws.{octets-drop}
 pub sound-inj : {A : Type 0} {a b : A} → sound a ≡ sound b → a ≡ b
 sound-inj e = cc
 
+pub fault-inj : {A : Type 0} {n k : ℕ} → ◌≡◌ {A = Answer A} (fault n) (fault k) → n ≡ k
+fault-inj e = cc
+
 pub not_sound : {A C : Type 0} {n : ℕ} {a : A} → fault n ≡ sound a → C
 not_sound e = let z : ◌≡◌ {A = ℕ} 0 1 = cc in absurd (omega arith)
 

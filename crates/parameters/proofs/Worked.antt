@@ -6,7 +6,7 @@ use mathlib.Core.Bool.{true, false}
 use lib.ListN.{replicate}
 use Rattle.octets.specs.Reader.{took}
 use Rattle.elements.specs.Element.{length_of, element, row_of, row}
-use Rattle.parameters.specs.Parameter.{string, text, ussd_contents, ussd, guidance, are_digits, password, service_code, ss_for_bs_contents, ss_for_bs}
+use Rattle.parameters.specs.Parameter.{string, text, ussd_contents, ussd, guidance, password, service_code, ss_for_bs_contents, ss_for_bs}
 use Rattle.parameters.specs.Suits.{is_ussd, none_or_one, suits_invoke_received, suits_result_received, suits_invoke_written, suits_result_written, suits}
 use Rattle.parameters.specs.Suits.{InvokeReceived, ResultReceived, InvokeWritten, ResultWritten}
 
@@ -108,5 +108,5 @@ pub worked :
     × (suits ResultWritten 38 [] ≡ false)
     -- the parameter of an error
     × (none_or_one spaces ≡ true)
-unfolding length_of element row_of row string text ussd_contents ussd are_digits ss_for_bs_contents suits_invoke_received suits_result_received suits_invoke_written suits_result_written suits
+unfolding length_of element row_of row string text ussd_contents ussd ss_for_bs_contents suits_invoke_received suits_result_received suits_invoke_written suits_result_written suits
 worked = (refl, refl, refl, refl, refl, refl, refl, refl, refl, refl, refl, refl, refl, refl, refl, refl, refl, refl, refl, refl, refl, refl, refl, refl, refl, refl, refl, refl, refl, refl, refl, refl, refl, refl, refl, refl, refl, refl, refl, refl, refl, refl, refl, refl, refl, refl, refl, refl, refl, refl, refl, refl, refl, refl, refl, refl, refl, refl, refl, refl, refl, refl, refl, refl, refl, refl, refl, refl, refl, refl, refl, refl, refl, refl, refl, refl, refl, refl)

@@ -1,5 +1,6 @@
 -- 01, "Parameters". A parameter is a list of octets; no parameter is no octets, since no element has none.
-use Rattle.std.specs.Prelude.{ℕ, List, [], ◌∷◌, Bool, true, false, cond, ◌&&◌, ◌||◌, length, get_or, leb, eqb}
+use Rattle.std.specs.Prelude.{ℕ, List, Bool, true, false, cond, ◌&&◌, ◌||◌, length, get_or, leb, eqb}
+use Rattle.std.specs.List.{list_all}
 use Rattle.octets.specs.Reader.{Answer, fault, sound, Taken, Reader, and_then, seq, done, check, need, alone}
 use Rattle.elements.specs.Element.{Element, element, row}
 
@@ -55,9 +56,8 @@ is_guidance c = eqb (length c) 1 && leb (get_or c 0 0) 2
 abbrev pub is_digit : ℕ → Bool
 is_digit octet = leb 0x30 octet && leb octet 0x39
 
-unfoldable pub are_digits : List ℕ → Bool
-are_digits [] = true
-are_digits (octet ∷ c) = is_digit octet && are_digits c
+abbrev pub are_digits : List ℕ → Bool
+are_digits c = list_all is_digit c
 
 -- Request [4]: "tag 12, length 4, each octet 30 to 39 hex."
 abbrev pub is_password : List ℕ → Bool

@@ -3,42 +3,25 @@ ghost use Rattle.std.specs.Prelude.{◌≡◌};
 ghost use Rattle.parameters.specs.Parameter.{is_sound, one};
 ghost use Rattle.parameters.specs.Seen.{ReadsContents};
 
-use elements::Found;
-
-// The contents go from a place to the end of the part.
-#[derive(Clone, Copy)]
-pub enum Contents {
-    Refused,
-    From(usize),
-}
-
 // Whether a part is one element.
+#[tactic(auto, using(crate::proofs::Paths::at_end))]
 pub fn is_one(p: &[u8]) -> bool
     ensures { result ≡ is_sound (one p.now) }
 {
-    let Found::Whole {
-        tag: _,
-        start: _,
-        end,
-    } = elements::read_element(p)
-    else {
+    let Ok(element) = elements::read_element(p) else {
         return false;
     };
-    end == p.len()
+    element.end == p.len()
 }
 
-// The contents of the one element that a part is, if it has this tag.
-pub fn contents_of(p: &[u8], tag: u8) -> Contents
+// The contents of the one element that a part is, if it has this tag: they go from the place told to the end of the part.
+#[tactic(auto, using(crate::proofs::Paths::at_end))]
+pub fn contents_of(p: &[u8], tag: u8) -> Option<usize>
     ensures { ReadsContents tag p.now result }
 {
-    let Found::Whole { tag: t, start, end } = elements::read_element(p) else {
-        return Contents::Refused;
-    };
-    if end != p.len() {
-        return Contents::Refused;
+    let element = elements::read_element(p).ok()?;
+    if element.end != p.len() || element.tag != tag {
+        return None;
     }
-    if t != tag {
-        return Contents::Refused;
-    }
-    Contents::From(start)
+    Some(element.start)
 }

@@ -5,109 +5,88 @@ ghost use Rattle.parameters.specs.Seen.{without_text, TellsText, TellsInvoke, Te
 
 use super::text::Ussd;
 
-// Whether a received parameter suits its operation, and the text that was read to tell it.
-#[derive(Clone, Copy)]
-pub struct Suited {
-    pub suited: bool,
-    pub text: Ussd,
-}
+// A received parameter that does not suit its operation.
+#[derive(Clone, Copy, Debug, PartialEq, Eq)]
+pub struct Unsuited;
 
 // The parameter of an error.
 pub fn is_none_or_one(p: &[u8]) -> bool
     ensures { result ≡ none_or_one p.now }
 {
-    (p.len() == 0) | super::one::is_one(p)
+    p.is_empty() || super::one::is_one(p)
 }
 
 fn is_none_or_ussd(p: &[u8]) -> bool
     ensures { result ≡ none_or_ussd p.now }
 {
-    (p.len() == 0) | super::kinds::is_ussd(p)
+    p.is_empty() || super::kinds::is_ussd(p)
 }
 
-fn without_text(suited: bool) -> Suited
+// Whether a parameter that holds no text suits.
+fn without_text(suited: bool) -> Result<Option<Ussd>, Unsuited>
     ensures { result ≡ without_text suited }
 {
-    Suited {
-        suited: suited,
-        text: Ussd::Refused,
-    }
+    if suited { Ok(None) } else { Err(Unsuited) }
 }
 
 // A parameter that should be a text.
-fn read_text(p: &[u8]) -> Suited
+fn read_text(p: &[u8]) -> Result<Option<Ussd>, Unsuited>
     ensures { TellsText p.now result }
 {
-    // field by field: a whole enum would be copied through memory
-    let Ussd::Says { scheme, start, end } = super::text::read_ussd(p) else {
-        return without_text(false);
-    };
-    Suited {
-        suited: true,
-        text: Ussd::Says {
-            scheme: scheme,
-            start: start,
-            end: end,
-        },
-    }
+    let text = super::text::read_ussd(p).ok_or(Unsuited)?;
+    Ok(Some(text))
 }
 
-// An invoke that is received.
-pub fn suits_invoke_received(operation: u8, p: &[u8]) -> Suited
+// An invoke that is received: its text, where one is looked for.
+#[tactic(auto, unfolding(crate::specs::Suits::suits, crate::specs::Suits::suits_invoke_received))]
+pub fn suits_invoke_received(operation: u8, p: &[u8]) -> Result<Option<Ussd>, Unsuited>
     ensures { TellsInvoke operation p.now result }
 {
-    if operation == 18 {
-        return without_text(super::kinds::is_guidance(p));
+    match operation {
+        18 => without_text(super::kinds::is_guidance(p)),
+        60 | 61 => read_text(p),
+        38 => without_text(p.is_empty()),
+        _ => Err(Unsuited),
     }
-    if (operation == 60) | (operation == 61) {
-        return read_text(p);
-    }
-    without_text((operation == 38) & (p.len() == 0))
 }
 
-// A result that is received; the operation is the one that waits.
-pub fn suits_result_received(operation: u8, p: &[u8]) -> Suited
+// A result that is received, and its text, where one is looked for; the operation is the one that waits.
+#[tactic(auto, using(crate::proofs::Paths::no_text), unfolding(crate::specs::Suits::suits, crate::specs::Suits::suits_result_received))]
+pub fn suits_result_received(operation: u8, p: &[u8]) -> Result<Option<Ussd>, Unsuited>
     ensures { TellsResult operation p.now result }
 {
-    if operation == 17 {
-        return without_text(super::kinds::is_password(p));
+    match operation {
+        17 => without_text(super::kinds::is_password(p)),
+        59 if p.is_empty() => Ok(None),
+        59 => read_text(p),
+        10..=14 => without_text(is_none_or_one(p)),
+        _ => Err(Unsuited),
     }
-    if operation == 59 {
-        let read = read_text(p);
-        let text = read.text;
-        return Suited {
-            suited: (p.len() == 0) | read.suited,
-            text: text,
-        };
-    }
-    without_text((10 <= operation) & (operation <= 14) & is_none_or_one(p))
 }
 
 // An invoke that we write.
+#[tactic(auto, unfolding(crate::specs::Suits::suits, crate::specs::Suits::suits_invoke_written))]
 pub fn suits_invoke_written(operation: u8, p: &[u8]) -> bool
     ensures { result ≡ suits InvokeWritten operation p.now }
 {
-    if operation == 10 {
-        return super::one::is_one(p);
+    match operation {
+        10 => super::one::is_one(p),
+        11..=14 => super::kinds::is_ss_for_bs(p),
+        17 => super::kinds::is_service_code(p),
+        59 => super::kinds::is_ussd(p),
+        _ => false,
     }
-    if (11 <= operation) & (operation <= 14) {
-        return super::kinds::is_ss_for_bs(p);
-    }
-    if operation == 17 {
-        return super::kinds::is_service_code(p);
-    }
-    (operation == 59) & super::kinds::is_ussd(p)
 }
 
 // A result that we write; the operation is the one that it answers.
+#[tactic(auto, unfolding(crate::specs::Suits::suits, crate::specs::Suits::suits_result_written))]
 pub fn suits_result_written(operation: u8, p: &[u8]) -> bool
     ensures { result ≡ suits ResultWritten operation p.now }
 {
-    if operation == 18 {
-        return super::kinds::is_password(p);
+    match operation {
+        18 => super::kinds::is_password(p),
+        60 => is_none_or_ussd(p),
+        61 => p.is_empty(),
+        _ => false,
     }
-    if operation == 60 {
-        return is_none_or_ussd(p);
-    }
-    (operation == 61) & (p.len() == 0)
 }

@@ -1,76 +1,61 @@
 // The text of a USSD parameter: coding scheme, string, tail.
 ghost use Rattle.parameters.specs.Seen.{ReadsString, ReadsUssdContents, ReadsUssd};
 
-use super::one::Contents;
-use elements::Found;
-use octets::MaybePart;
+use octets::Span;
 
-// The string's places; the tail goes from its end to the end of the part.
+// The coding scheme, and the string's places; the tail goes from its end to the end of the part.
 #[derive(Clone, Copy)]
-pub enum Ussd {
-    Refused,
-    Says {
-        scheme: u8,
-        start: usize,
-        end: usize,
-    },
+pub struct Ussd {
+    pub scheme: u8,
+    pub start: usize,
+    pub end: usize,
 }
 
 // The octet string at the front of a part, of so many octets.
-pub fn read_string(s: &[u8], low: usize, high: usize) -> MaybePart
+#[tactic(auto, unfolding(crate::specs::Parameter::string))]
+pub fn read_string(s: &[u8], low: usize, high: usize) -> Option<Span>
     ensures { ReadsString low high s.now result }
 {
-    let Found::Whole { tag, start, end } = elements::read_element(s) else {
-        return MaybePart::Nothing;
-    };
-    if tag != 0x04 {
-        return MaybePart::Nothing;
+    let element = elements::read_element(s).ok()?;
+    if element.tag != 0x04 {
+        return None;
     }
-    if end - start < low {
-        return MaybePart::Nothing;
+    if !(low..=high).contains(&(element.end - element.start)) {
+        return None;
     }
-    if high < end - start {
-        return MaybePart::Nothing;
-    }
-    MaybePart::Between {
-        start: start,
-        end: end,
-    }
+    Some(Span {
+        start: element.start,
+        end: element.end,
+    })
 }
 
 // The contents of a USSD parameter.
-fn read_contents(s: &[u8]) -> Ussd
+#[tactic(auto, unfolding(crate::specs::Parameter::ussd_contents, crate::specs::Parameter::text))]
+fn read_contents(s: &[u8]) -> Option<Ussd>
     ensures { ReadsUssdContents s.now result }
 {
-    let MaybePart::Between { start: a, end: e } = read_string(s, 1, 1) else {
-        return Ussd::Refused;
-    };
-    let MaybePart::Between { start: b, end: f } = read_string(&s[e..], 1, 160) else {
-        return Ussd::Refused;
-    };
-    if !elements::is_row(&s[e + f..]) {
-        return Ussd::Refused;
+    let scheme = read_string(s, 1, 1)?;
+    let string = read_string(&s[scheme.end..], 1, 160)?;
+    if !elements::is_row(&s[scheme.end + string.end..]) {
+        return None;
     }
-    Ussd::Says {
-        scheme: s[a],
-        start: e + b,
-        end: e + f,
-    }
+    Some(Ussd {
+        scheme: s[scheme.start],
+        start: scheme.end + string.start,
+        end: scheme.end + string.end,
+    })
 }
 
 // A USSD-Arg or USSD-Res that is all of a part.
-pub fn read_ussd(p: &[u8]) -> Ussd
+#[tactic(auto, unfolding(crate::specs::Parameter::ussd))]
+pub fn read_ussd(p: &[u8]) -> Option<Ussd>
     ensures { ReadsUssd p.now result }
 {
-    let Contents::From(at) = super::one::contents_of(p, 0x30) else {
-        return Ussd::Refused;
-    };
-    let Ussd::Says { scheme, start, end } = read_contents(&p[at..]) else {
-        return Ussd::Refused;
-    };
-    Ussd::Says {
-        scheme: scheme,
-        start: at + start,
-        end: at + end,
-    }
+    let at = super::one::contents_of(p, 0x30)?;
+    let text = read_contents(&p[at..])?;
+    Some(Ussd {
+        scheme: text.scheme,
+        start: at + text.start,
+        end: at + text.end,
+    })
 }

@@ -1,48 +1,23 @@
--- What is left behind a place, the parameter as the last octets, and a place where no element stands.
+-- What is left behind a place, and the parameter as the last octets.
 use Prim.Native.Nat.{ℕ, ◌+◌, ◌-◌, ◌≤◌}
 use mathlib.Core.Path.{◌≡◌, refl, ap, ◌∙◌}
 use mathlib.Core.List.{List, [], ◌∷◌}
-use mathlib.Core.Logic.{⊎_elim}
 use native.Mathlib.Omega.{arith}
-use borrow.Enum.Refused.{Among, opened}
-use denote.Enum.Declared.{tag_of}
 use lib.ListN.{length, take, drop, length-take, length-drop}
 use lib.Seq.{drop-drop}
 use Rattle.octets.specs.Part.{between}
-use Rattle.octets.specs.Reader.{fault, is_empty}
+use Rattle.octets.specs.Reader.{is_empty}
 use Rattle.octets.proofs.PartLaws.{from-taken}
-use Rattle.elements.specs.Found.{seen}
-use Rattle.elements.specs.declared.Found.{Found}
-use Rattle.elements.specs.declared.Found.TheVariants.{Missing, Whole}
-use Rattle.elements.specs.contracts.Found.{the_type}
-use Rattle.places.specs.Seen.{problem_of, last}
-use mathlib.Core.Bool.{true, false}
-use Rattle.elements.specs.Element.{element}
+use Rattle.places.specs.Seen.{last}
+use mathlib.Core.Bool.{false}
 
--- where no whole element stands, the fault has the number that the code hands on
-pub problem-is : (r : Found) (s : List ℕ) → Among (0 ∷ 1 ∷ []) (tag_of the_type r) → seen s r ≡ element s → fault (problem_of r) ≡ element s
-problem-is Missing s k e = e
-problem-is Found.Unreadable s k e = e
-problem-is (Whole t a b) s k e = absurd (⊎_elim (λ z. omega arith) (λ z. omega arith) (opened k))
-
-pub nothing_left : (s : List ℕ) → length s ≡ 0 → is_empty s ≡ true
-nothing_left [] e = refl
-nothing_left (a ∷ s) e = absurd (omega arith)
-
-pub something-left : (s : List ℕ) → (length s ≡ 0 → ⊥) → is_empty s ≡ false
-something-left [] e = absurd (e refl)
-something-left (a ∷ s) e = refl
-
--- what is left behind a place: nothing at the end, something before it
-pub left-none : (s : List ℕ) (e : ℕ) → e ≡ length s → is_empty (drop e s) ≡ true
-left-none s e h = nothing_left (drop e s) (simp length-drop (omega arith))
-
-pub left-some : (s : List ℕ) (e : ℕ) → e ≤ length s → (e ≡ length s → ⊥) → is_empty (drop e s) ≡ false
-left-some s e l h = something-left (drop e s) (λ z. h (omega (arith, simp length-drop at z)))
-
--- the parameter behind a place is the last octets
-pub last-is : (s : List ℕ) (e : ℕ) → e ≤ length s → last (length s - e) s ≡ drop e s
-last-is s e l = let h : length s - (length s - e) ≡ e = omega arith in rw h
+-- what is left before the end of a part is something
+pub left_some : (s : List ℕ) (e : ℕ) → e ≤ length s → (e ≡ length s → ⊥) → is_empty (drop e s) ≡ false
+left_some s e l h = some (drop e s) (λ z. h (omega (arith, simp length-drop at z)))
+  where
+    some : (r : List ℕ) → (length r ≡ 0 → ⊥) → is_empty r ≡ false
+    some [] z = absurd (z refl)
+    some (a ∷ r) z = refl
 
 -- the last octets of a part that goes on to the end
 pub last_end : (s : List ℕ) (a n : ℕ) → a ≤ length s → n ≤ length (drop a s) → last n (drop a s) ≡ last n s

@@ -1,7 +1,7 @@
+pub mod PageLaws
 pub mod FortyLaws
 pub mod TextFortyLaws
 pub mod Worked
 mod DecimalLaws
 pub mod FoldLaws
 mod CellLaws
-pub mod JoinLaws

@@ -1,34 +1,19 @@
 -- The contracts leave one answer each.
-use Prim.Native.Nat.{ℕ, ◌≤◌}
+use Prim.Native.Nat.{ℕ}
 use mathlib.Core.Path.{◌≡◌, refl, sym, ap, ◌∙◌}
 use mathlib.Core.List.{List, []}
-use mathlib.Core.Bool.{Bool, true, ◌||◌}
+use mathlib.Core.Bool.{Bool, true, false, ◌||◌, true≢false}
 use lib.Dec.{eqb}
-use mathlib.Core.Option.{Option}
-use native.Mathlib.Omega.{arith}
 use lib.IntN.{ℤ}
-use lib.ListN.{length, drop, length-drop}
-use Rattle.octets.specs.Reader.{Answer, Taken}
-use Rattle.octets.proofs.ReaderLaws.{sound-inj}
+use Rattle.std.specs.Prelude.{Ok, Err}
+use Rattle.octets.specs.Reader.{Answer}
 use Rattle.parameters.specs.Seen.{TellsSuited}
 use Rattle.parameters.specs.Suits.{is_ussd, suits, InvokeReceived, ResultReceived}
-use Rattle.places.specs.Places.{InvokePlaces, Coded}
-use Rattle.places.specs.Seen.{id_seen, single_seen, SingleWithin, calls_seen, CallsWithin, last_seen, coded_seen, CodedWithin, rejected_seen, RejectedWithin}
-use Rattle.places.specs.declared.Id.{Id}
-use Rattle.places.specs.declared.Single.{Single}
-use Rattle.places.specs.declared.Calls.{Calls}
-use Rattle.places.specs.declared.Code.{Code}
-use Rattle.places.specs.declared.Last.{Last}
-use Rattle.places.specs.declared.Rejected.{Rejected}
 use Rattle.components.specs.Component.{error}
-use Rattle.components.specs.Facility.{shows}
-use Rattle.components.specs.Seen.{kind_seen, KindWithin}
-use Rattle.components.specs.declared.kinds.Kind.{Kind}
-use Rattle.components.specs.declared.shown.Shown.{Shown}
-use Rattle.components.specs.declared.facility.Reading.{Reading}
 use Rattle.elements.proofs.Determined.{length-determined, found-determined}
 use Rattle.parameters.proofs.Determined.{contents-determined, string-determined, ussd-determined}
-use Rattle.components.proofs.Determined.{reading-determined}
+use Rattle.places.proofs.Determined.{single-determined, calls-determined, last-determined, coded-determined, rejected-determined}
+use Rattle.components.proofs.Determined.{kind-determined, reading-determined}
 use Rattle.octets.proofs.Determined.{found-determined as part-determined, read-determined}
 use Rattle.messages.specs.Layout.{mandatory_missing}
 use Rattle.messages.proofs.Determined.{item-determined, type-determined}
@@ -53,74 +38,12 @@ by-saying seen within definition same r q e f = same r q e.1 f.1 (e.0 ∙ sym f.
 by-meaning : {A B : Type 0} (seen : A → B) (definition : B) → ((r q : A) → seen r ≡ seen q → r ≡ q) → OneAnswer (λ (r : A). seen r ≡ definition)
 by-meaning seen definition same r q e f = same r q (e ∙ sym f)
 
--- a place is told by what is left behind it
-same_end : (s : List ℕ) (i j : ℕ) → i ≤ length s → j ≤ length s → drop i s ≡ drop j s → i ≡ j
-same_end s i j h k e = omega (arith, simp length-drop at (ap length e))
-
-id-determined : (a b : Id) → id_seen a ≡ id_seen b → a ≡ b
-id-determined Id.Absent Id.Absent e = refl
-id-determined Id.Absent (Id.Is j) e = cc
-id-determined (Id.Is i) Id.Absent e = cc
-id-determined (Id.Is i) (Id.Is j) e = cc
-
-single-determined : (s : List ℕ) (r q : Single) → SingleWithin s r → SingleWithin s q → single_seen s r ≡ single_seen s q → r ≡ q
-single-determined s (Single.Fault n) (Single.Fault m) a b e = cc
-single-determined s (Single.Fault n) (Single.Is y j) a b e = cc
-single-determined s (Single.Is x i) (Single.Fault m) a b e = cc
-single-determined s (Single.Is x i) (Single.Is y j) a b e =
-    let g = sound-inj e in
-    let z : i ≡ j = same_end s i j a b (ap (λ (h : Taken ℕ). h.rest) g) in
-    λ n. Single.Is (g n).value (z n)
-
-calls-determined : (s : List ℕ) (r q : Calls) → CallsWithin s r → CallsWithin s q → calls_seen s r ≡ calls_seen s q → r ≡ q
-calls-determined s (Calls.Fault n) (Calls.Fault m) a b e = cc
-calls-determined s (Calls.Fault n) (Calls.Is l y j) a b e = cc
-calls-determined s (Calls.Is k x i) (Calls.Fault m) a b e = cc
-calls-determined s (Calls.Is k x i) (Calls.Is l y j) a b e =
-    let g = sound-inj e in
-    let z : i ≡ j = same_end s i j a b (ap (λ (h : Taken InvokePlaces). h.rest) g) in
-    let w : k ≡ l = id-determined k l (ap (λ (h : Taken InvokePlaces). h.value.linked) g) in
-    λ n. Calls.Is (w n) (g n).value.operation (z n)
-
-coded-determined : (s : List ℕ) (r q : Code) → CodedWithin s r → CodedWithin s q → coded_seen s r ≡ coded_seen s q → r ≡ q
-coded-determined s (Code.Fault n) (Code.Fault m) a b e = cc
-coded-determined s (Code.Fault n) (Code.Is y j) a b e = cc
-coded-determined s (Code.Is x i) (Code.Fault m) a b e = cc
-coded-determined s (Code.Is x i) (Code.Is y j) a b e =
-    let g = sound-inj e in
-    let z : i ≡ j = omega (arith, simp length-drop at (ap (λ (h : Coded). length h.parameter) g)) in
-    λ n. Code.Is (g n).code (z n)
-
-rejected-determined : (s : List ℕ) (r q : Rejected) → RejectedWithin s r → RejectedWithin s q → rejected_seen s r ≡ rejected_seen s q → r ≡ q
-rejected-determined s (Rejected.Fault n) (Rejected.Fault m) a b e = cc
-rejected-determined s (Rejected.Fault n) (Rejected.Is l j) a b e = cc
-rejected-determined s (Rejected.Is k i) (Rejected.Fault m) a b e = cc
-rejected-determined s (Rejected.Is k i) (Rejected.Is l j) a b e =
-    let g = sound-inj e in
-    let z : i ≡ j = same_end s i j a b (ap (λ (h : Taken (Option ℤ)). h.rest) g) in
-    let w : k ≡ l = id-determined k l (ap (λ (h : Taken (Option ℤ)). h.value) g) in
-    λ n. Rejected.Is (w n) (z n)
-
-last-determined : (s : List ℕ) (r q : Last) → last_seen s r ≡ last_seen s q → r ≡ q
-last-determined s (Last.Fault n) (Last.Fault m) e = cc
-last-determined s (Last.Fault n) Last.Parameter e = cc
-last-determined s Last.Parameter (Last.Fault m) e = cc
-last-determined s Last.Parameter Last.Parameter e = refl
-
-shows-inj : {a b : Shown} → Reading.Shows a ≡ Reading.Shows b → a ≡ b
-shows-inj e = cc
-
-kind-determined : (s : List ℕ) (r q : Kind) → KindWithin s r → KindWithin s q → kind_seen s r ≡ kind_seen s q → r ≡ q
-kind-determined s (Kind.Fault n) (Kind.Fault m) a b e = cc
-kind-determined s (Kind.Fault n) (Kind.Is y) a b e = cc
-kind-determined s (Kind.Is x) (Kind.Fault m) a b e = cc
-kind-determined s (Kind.Is x) (Kind.Is y) a b e = ap Kind.Is (shows-inj (reading-determined s (Reading.Shows x) (Reading.Shows y) a b (ap shows (sound-inj e))))
-
+-- whether it suits is told by the case, and so is which text
 weighed : (suited sought : Bool) (p : List ℕ) → OneAnswer (TellsSuited suited sought p)
-weighed suited sought p r q e f =
-    let a = e.0 ∙ sym f.0 in
-    let b = ussd-determined p r.text q.text e.1.1 f.1.1 (e.1.0 ∙ sym f.1.0) in
-    λ n. record { suited = a n; text = b n }
+weighed suited sought p (Ok t) (Ok u) e f = ap Ok (ussd-determined p t u e.1.1 f.1.1 (e.1.0 ∙ sym f.1.0))
+weighed suited sought p (Ok t) (Err n) e f = absurd (true≢false (e.0 ∙ sym f.0))
+weighed suited sought p (Err m) (Ok u) e f = absurd (true≢false (f.0 ∙ sym e.0))
+weighed suited sought p (Err m) (Err n) e f = refl
 
 called : (definition : Answer Sending) (message : ℕ → ℕ → List ℕ) (named : ℕ → ℕ) (table : List ℕ) (room flag value : ℕ)
     → OneAnswer (DecidesCall definition message named table room flag value)
@@ -141,7 +64,7 @@ parameters = (
 in-places : InPlaces
 in-places = (
   (λ tag s. by-saying _ _ _ (single-determined s)),
-  ((λ s. by-saying _ _ _ (calls-determined s)), ((λ s. by-saying _ _ _ (coded-determined s)), ((λ s. by-saying _ _ _ (rejected-determined s)), λ s. by-meaning _ _ (last-determined s)))),
+  ((λ s. by-saying _ _ _ (calls-determined s)), ((λ s. by-saying _ _ _ (coded-determined s)), ((λ s. by-saying _ _ _ (rejected-determined s)), λ s. by-saying _ _ _ (last-determined s)))),
 )
 
 components : Components

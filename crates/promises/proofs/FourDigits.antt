@@ -32,7 +32,6 @@ digit : (octet : ℕ) → is_digit octet ≡ true → Digit octet
 digit octet h = let k = both (leb 0x30 octet) (leb octet 0x39) h in (leb-true 0x30 octet k.0, leb-true octet 0x39 k.1)
 
 first-digit : (octet : ℕ) (s : List ℕ) → are_digits (octet ∷ s) ≡ true → Digit octet × (are_digits s ≡ true)
-unfolding are_digits
 first-digit octet s h = let k = both (is_digit octet) (are_digits s) h in (digit octet k.0, k.1)
 
 four : (p c : List ℕ) → element p ≡ took (record { tag = 0x12; contents = c }) [] → length c ≡ 4 → are_digits c ≡ true → FourDigits p
@@ -41,10 +40,10 @@ four p (w ∷ []) e l h = absurd (omega arith)
 four p (w ∷ x ∷ []) e l h = absurd (omega arith)
 four p (w ∷ x ∷ y ∷ []) e l h = absurd (omega arith)
 four p (w ∷ x ∷ y ∷ z ∷ []) e l h =
-    let a = first-digit w _ h in
-    let b = first-digit x _ a.1 in
-    let c = first-digit y _ b.1 in
-    let d = first-digit z _ c.1 in
+    let a = first-digit w (x ∷ y ∷ z ∷ []) h in
+    let b = first-digit x (y ∷ z ∷ []) a.1 in
+    let c = first-digit y (z ∷ []) b.1 in
+    let d = first-digit z [] c.1 in
     record { first = w; second = x; third = y; fourth = z; is = e; digits = (a.0, (b.0, (c.0, d.0))) }
 four p (w ∷ x ∷ y ∷ z ∷ v ∷ c) e l h = absurd (omega arith)
 
@@ -55,7 +54,6 @@ are-four p h =
     held 0x12 p c q λ e. four p c e (eqb-true (length c) 4 k.0) k.1
 
 pub is-password : (p : List ℕ) → FourDigits p → password p ≡ true
-unfolding are_digits
 is-password p f =
     let d = f.digits in
     rw (

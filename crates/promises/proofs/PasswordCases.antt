@@ -31,11 +31,11 @@ use Rattle.promises.proofs.ShownDigits.{others-are-not-shown, digits-are-shown}
 use Rattle.promises.proofs.Reached.{arrives}
 
 spaces-are-none : FourDigits spaces → ⊥
-unfolding length_of element are_digits
+unfolding length_of element
 spaces-are-none f = false≢true (is-password spaces f)
 
 space-is-none : FourDigits (password 0x20) → ⊥
-unfolding length_of element are_digits
+unfolding length_of element
 space-is-none f = false≢true (is-password (password 0x20) f)
 
 digits-are-four : FourDigits (password 0x34)
@@ -82,7 +82,7 @@ module _ (octet : ℕ) where
       }
 
 pub password-cases : PasswordCases
-unfolding calls-result begin send_result send_begin transaction fitting suits suits_invoke_written suits_result_written are_digits length_of element entry_of sound_image side_of state_of sound_side entry_at sound_entries valid lowest_from lowest_closed among operation_of without picked_entry reply_first shortest register facility_message release_facility contents result_for splice facility-reaches end-reaches
+unfolding calls-result begin send_result send_begin transaction fitting suits suits_invoke_written suits_result_written length_of element entry_of sound_image side_of state_of sound_side entry_at sound_entries valid lowest_from lowest_closed among operation_of without picked_entry reply_first shortest register facility_message release_facility contents result_for splice facility-reaches end-reaches
 password-cases = (
   others-are-not-written peer18 buffer spaces 0 0 (pos 5) asks spaces-are-none,
   (

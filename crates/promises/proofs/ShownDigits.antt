@@ -23,7 +23,7 @@ use Rattle.judging.specs.StepSix.{is_ours, judge_result}
 use Rattle.deciding.specs.Decision.{with_reject, taken}
 use Rattle.deciding.specs.Steps.{picked_entry, shown, on_judged, step_six}
 use Rattle.showing.specs.Views.{standing, view_of, component_view}
-use Rattle.showing.specs.declared.Span.{Span}
+use Rattle.octets.specs.declared.Span.{Span}
 use Rattle.telephone.specs.Receive.{act, receive}
 use Rattle.telephone.specs.FromC.{received_of}
 use Rattle.telephone.proofs.Shown.{nothing-shown}

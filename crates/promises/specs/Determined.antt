@@ -1,6 +1,6 @@
 -- 01, "How much the promises say": "from it, equal inputs are proved to give equal outcomes". Each promise is the one that the
 -- function's contract cites.
-use Rattle.std.specs.Prelude.{ℕ, ◌≡◌, List, ℤ}
+use Rattle.std.specs.Prelude.{ℕ, ◌≡◌, List, Option, ℤ}
 use Rattle.octets.specs.OneAnswer.{OneAnswer}
 use Rattle.octets.specs.Reader.{Answer}
 use Rattle.elements.specs.Found.{ReadsLength, ReadsElement}
@@ -19,7 +19,6 @@ use Rattle.deciding.specs.Decision.{Decision}
 use Rattle.deciding.specs.Seen.{Decides}
 use Rattle.records.specs.Records.{counted}
 use Rattle.records.specs.Seen.{ReadsRecord, count_seen}
-use Rattle.records.specs.declared.Count.{Count}
 use Rattle.calling.specs.Seen.{DecidesBegin, DecidesInvoke, DecidesResult, DecidesError, DecidesRelease}
 
 -- every function whose answer is an enum or a struct of places, crate by crate
@@ -72,7 +71,7 @@ Decisions =
     × ((table : List ℕ) (room flag value : ℕ) → OneAnswer (DecidesRelease table room flag value))))))
 
 abbrev pub Recorded : Type 0
-Recorded = ((s : List ℕ) → OneAnswer (ReadsRecord s)) × ((s : List ℕ) → OneAnswer (λ (r : Count). count_seen r ≡ counted s))
+Recorded = ((s : List ℕ) → OneAnswer (ReadsRecord s)) × ((s : List ℕ) → OneAnswer (λ (r : Option ℕ). count_seen r ≡ counted s))
 
 abbrev pub Determined : Type 0
 Determined = Elements × (Parameters × (InPlaces × (Components × (Messages × (Transactions × (Decisions × Recorded))))))

@@ -5,47 +5,38 @@ ghost use Rattle.std.specs.Prelude.{◌≡◌};
 ghost use Rattle.records.specs.Records.{counted};
 ghost use Rattle.records.specs.Seen.{ReadsRecord, count_seen};
 
-use octets::MaybePart;
-
-// How many records there are, or that one of them is zero or cut.
-#[derive(Clone, Copy)]
-pub enum Count {
-    Bad,
-    Whole(usize),
-}
+use octets::Span;
 
 // The message of the record at the front.
-pub fn read_record(s: &[u8]) -> MaybePart
+pub fn read_record(s: &[u8]) -> Option<Span>
     ensures { ReadsRecord s.now result }
 {
     if s.len() < 1 {
-        return MaybePart::Nothing;
+        return None;
     }
     let n = s[0] as usize;
     if n == 0 {
-        return MaybePart::Nothing;
+        return None;
     }
     if s.len() - 1 < n {
-        return MaybePart::Nothing;
+        return None;
     }
-    MaybePart::Between {
+    Some(Span {
         start: 1,
         end: 1 + n,
-    }
+    })
 }
 
-// Looks at all records, from the first to the last.
-pub fn count_records(s: &[u8]) -> Count
+// How many records there are, looked at from the first to the last; none where one of them is zero or cut.
+pub fn count_records(s: &[u8]) -> Option<usize>
     ensures { count_seen result ≡ counted s.now }
 {
-    let mut i = 0;
+    let mut rest = s;
     let mut n = 0;
-    while i < s.len() {
-        let MaybePart::Between { start: _, end } = read_record(&s[i..]) else {
-            return Count::Bad;
-        };
-        i += end;
+    while !rest.is_empty() {
+        let record = read_record(rest)?;
+        rest = &rest[record.end..];
         n += 1;
     }
-    Count::Whole(n)
+    Some(n)
 }

@@ -1,5 +1,4 @@
 pub mod FortyLaws
 mod VerdictLaws
-mod RowLaws
 pub mod FeltLaws
 mod SlotLaws

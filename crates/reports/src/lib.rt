@@ -1,4 +1,4 @@
-// What is printed of a received message, of a call and of a batch, written into a lent page.
+// What is printed of a received message, of a call and of a batch, put on a page.
 #![tactic(auto)]
 
 mod felt;

@@ -1,2 +1,2 @@
-mod SendLaws
+pub mod SendLaws
 pub mod SentBack

@@ -6,6 +6,8 @@ use native.Mathlib.Omega.{arith}
 use lib.ListN.{length, length-append}
 use Rattle.octets.specs.Splice.{splice}
 use Rattle.octets.proofs.SpliceLaws.{splice-splice}
+use Rattle.codes.proofs.IdLaws.{held-is}
+use Rattle.writing.proofs.WriteLaws.{invoke-octets, answer-octets, reject-octets, reject-bound, six-length}
 use Rattle.messages.specs.Layout.{register_type, facility_type, release_type, register, facility_message, release_facility}
 
 joined : (b x z h v : List ℕ) (n : ℕ) → length h + length v ≤ length b → x ≡ splice b 0 h → n ≡ length h → z ≡ splice x n v → z ≡ splice b 0 (h ++ v)
@@ -42,3 +44,6 @@ release_length first v = omega arith
 pub register-length : (first : ℕ) (v : List ℕ) → length (register first v) ≡ 7 + length v
 unfolding register
 register-length first v = omega (arith, length-append v (0x7F ∷ 0x01 ∷ 0x00 ∷ []))
+
+-- an id as the code holds it, and how long each piece is
+pub ruleset sent = (held-is, invoke-octets, answer-octets, reject-octets, reject-bound, six-length, facility-length, release_length, register-length)

@@ -1,30 +1,24 @@
--- What the definitions say on each path through the code: parts at their places, and the numbers of each kind.
+-- What the definitions say on each path through the code: parts at their places.
 use Prim.Native.Nat.{ℕ, ◌+◌, ◌-◌, ◌≤◌}
 use mathlib.Core.Path.{◌≡◌, refl, sym, ap, ◌∙◌}
 use mathlib.Core.List.{List, ◌++◌}
 use mathlib.Core.Bool.{Bool, true, false, cond}
 use mathlib.Core.Option.{none, some}
 use native.Mathlib.Omega.{arith}
-use lib.IntN.{ℤ, pos}
 use lib.ListN.{length, take, drop, length-drop, length-append}
 use Rattle.octets.specs.Part.{between}
 use Rattle.octets.specs.Reader.{Answer, fault, sound, Taken, took}
 use Rattle.octets.proofs.PartLaws.{length-between}
 use Rattle.parameters.specs.Parameter.{Text, ussd, mistyped}
 use Rattle.parameters.specs.Seen.{refusal}
-use Rattle.places.specs.Seen.{id_seen}
-use Rattle.places.specs.declared.Id.{Id}
 use Rattle.places.proofs.Left.{last_taken}
 use Rattle.components.specs.Component.{Component, parameter_of}
 use Rattle.components.specs.Texts.{extensible, readable, text_of}
-use Rattle.components.specs.Seen.{operation_seen, shown_seen, parameter_length}
-use Rattle.components.specs.declared.shown.Operation.{Operation}
+use Rattle.components.specs.Seen.{shown_seen, parameter_length}
 use Rattle.components.specs.declared.shown.Shown.{Shown}
-use Rattle.components.specs.declared.shown.Shown.TheVariants.{Invoke, Result, Error, Reject}
 use Rattle.components.proofs.Paths.{parameter-shown}
-use Rattle.showing.specs.declared.Span.{Span}
 use Rattle.showing.specs.declared.TextView.{TextView}
-use Rattle.showing.specs.Views.{span_of, is_present, id_or0, number_or0, view_of, text_view, no_text}
+use Rattle.showing.specs.Views.{span_of, text_view, no_text}
 
 -- a part of what stands behind the two octets of the head
 pub span-at : (s : List ℕ) (a e : ℕ) → a ≤ e → e ≤ length s → span_of (2 + length s) (between a e s) (drop e s) ≡ record { start = 2 + a; end = 2 + e }
@@ -43,71 +37,6 @@ less m e h = omega arith
 
 length-drop-add : (n : ℕ) (l : List ℕ) → n ≤ length l → length (drop n l) + n ≡ length l
 length-drop-add n l h = rw (length-drop n l) (back n (length l) h)
-
-module _ (s : List ℕ) (span : Span) where
-  pub view-invoke : {id i l : ℤ} {b : Bool} (linked : Id) (o n : ℕ) → i ≡ id → b ≡ is_present (id_seen linked) → l ≡ id_or0 (id_seen linked)
-      → record {
-        kind = 0xA1;
-        has_id = true;
-        id = i;
-        has_linked = b;
-        linked = l;
-        has_operation = true;
-        operation = o;
-        code = 0;
-        tag = 0;
-        problem = 0;
-        parameter = span;
-      } ≡ view_of (shown_seen s (Invoke id linked o n)) span
-  view-invoke linked o n p q r = rw (p, q, r)
-
-  pub view-result : {id i : ℤ} {b : Bool} {m : ℕ} (operation : Operation) (n : ℕ) → i ≡ id → b ≡ is_present (operation_seen operation) → m ≡ number_or0 (operation_seen operation)
-      → record {
-        kind = 0xA2;
-        has_id = true;
-        id = i;
-        has_linked = false;
-        linked = pos 0;
-        has_operation = b;
-        operation = m;
-        code = 0;
-        tag = 0;
-        problem = 0;
-        parameter = span;
-      } ≡ view_of (shown_seen s (Result id operation n)) span
-  view-result operation n p q r = rw (p, q, r)
-
-  pub view-error : {id i : ℤ} (code n : ℕ) → i ≡ id
-      → record {
-        kind = 0xA3;
-        has_id = true;
-        id = i;
-        has_linked = false;
-        linked = pos 0;
-        has_operation = false;
-        operation = 0;
-        code = code;
-        tag = 0;
-        problem = 0;
-        parameter = span;
-      } ≡ view_of (shown_seen s (Error id code n)) span
-  view-error code n p = rw p
-
-  pub view-reject : {i : ℤ} {b : Bool} (id : Id) (tag problem : ℕ) → b ≡ is_present (id_seen id) → i ≡ id_or0 (id_seen id)
-      → record {
-        kind = 0xA4;
-        has_id = b;
-        id = i;
-        has_linked = false;
-        linked = pos 0;
-        has_operation = false;
-        operation = 0;
-        code = 0;
-        tag = tag;
-        problem = problem;
-        parameter = span;
-      } ≡ view_of (shown_seen s (Reject id tag problem)) span
-  view-reject id tag problem p q = rw (p, q)
 
 -- the parameter of a component that is shown, as a part
 pub parameter-is : (r : Shown) (s : List ℕ) (n e : ℕ) → n ≡ parameter_length r → parameter_length r ≤ e → e ≤ length s → parameter_of (shown_seen (take e s) r) ≡ between (e - n) e s

@@ -7,7 +7,7 @@ use Rattle.parameters.specs.Parameter.{Text}
 use Rattle.components.specs.Component.{Component, invoke, result, error, reject, parameter_of, invoke_tag, result_tag, error_tag, reject_tag}
 use Rattle.components.specs.Shows.{Shows}
 use Rattle.components.specs.Texts.{text_of}
-use Rattle.showing.specs.declared.Span.{Span}
+use Rattle.octets.specs.declared.Span.{Span}
 use Rattle.showing.specs.declared.ComponentView.{ComponentView}
 use Rattle.showing.specs.declared.TextView.{TextView}
 use Rattle.showing.specs.declared.CauseView.{CauseView}

@@ -3,23 +3,13 @@
 
 ghost use Rattle.std.specs.Prelude.{◌≡◌, List, ℕ, ◌+◌, ◌≤◌, length, take, drop};
 ghost use Rattle.std.proofs.Math.Option.{some};
-ghost use Rattle.places.specs.Seen.{id_seen};
-ghost use Rattle.components.specs.Seen.{operation_seen, shown_seen, TextTold, parameter_length};
+ghost use Rattle.components.specs.Seen.{shown_seen, TextTold, parameter_length};
 ghost use Rattle.octets.specs.Seen.{part_found, PartWithin};
-ghost use Rattle.showing.specs.Views.{is_present, id_or0, number_or0, view_of, component_view, text_view, cause_view, no_component, no_text};
+ghost use Rattle.showing.specs.Views.{view_of, component_view, text_view, cause_view, no_component, no_text};
 
-use components::shown::{Operation, Shown};
-use octets::MaybePart;
+use components::shown::Shown;
+use octets::Span;
 use parameters::text::Ussd;
-use places::Id;
-
-// From one octet of the message up to, not including, another.
-#[repr(C)]
-#[derive(Clone, Copy)]
-pub struct Span {
-    pub start: usize,
-    pub end: usize,
-}
 
 // A component; kind is its outer tag, 0 for nothing. A number that is not there is 0; a parameter is empty at its place.
 #[repr(C)]
@@ -56,136 +46,53 @@ pub struct CauseView {
     pub contents: Span,
 }
 
-fn has_id(id: Id) -> bool
-    ensures { result ≡ is_present (id_seen id) }
-{
-    match id {
-        Id::Absent => {
-            return false;
-        }
-        Id::Is(_) => {
-            return true;
-        }
-    }
-}
-
-fn id_or_0(id: Id) -> i8
-    ensures { result ≡ id_or0 (id_seen id) }
-{
-    match id {
-        Id::Absent => {
-            return 0;
-        }
-        Id::Is(id) => {
-            return id;
-        }
-    }
-}
-
-fn has_operation(operation: Operation) -> bool
-    ensures { result ≡ is_present (operation_seen operation) }
-{
-    match operation {
-        Operation::Absent => {
-            return false;
-        }
-        Operation::Is(_) => {
-            return true;
-        }
-    }
-}
-
-fn operation_or_0(operation: Operation) -> u8
-    ensures { result ≡ number_or0 (operation_seen operation) }
-{
-    match operation {
-        Operation::Absent => {
-            return 0;
-        }
-        Operation::Is(operation) => {
-            return operation;
-        }
-    }
-}
-
 // The numbers of a component, whatever its parameter says.
-fn view_of(shown: Shown, span: Span) -> ComponentView
-    ensures { (s : List ℕ) → result ≡ view_of (shown_seen s shown) span }
+fn view_of(shown: Shown, parameter: Span) -> ComponentView
+    ensures { (s : List ℕ) → result ≡ view_of (shown_seen s shown) parameter }
 {
     match shown {
         Shown::Invoke {
             id,
             linked,
             operation,
-            parameter: _,
-        } => {
-            return ComponentView {
-                kind: 0xA1,
-                has_id: true,
-                id: id,
-                has_linked: has_id(linked),
-                linked: id_or_0(linked),
-                has_operation: true,
-                operation: operation,
-                code: 0,
-                tag: 0,
-                problem: 0,
-                parameter: span,
-            };
-        }
-        Shown::Result {
+            ..
+        } => ComponentView {
+            kind: 0xA1,
+            has_id: true,
             id,
+            has_linked: linked.is_some(),
+            linked: linked.unwrap_or(0),
+            has_operation: true,
             operation,
-            parameter: _,
-        } => {
-            return ComponentView {
-                kind: 0xA2,
-                has_id: true,
-                id: id,
-                has_linked: false,
-                linked: 0,
-                has_operation: has_operation(operation),
-                operation: operation_or_0(operation),
-                code: 0,
-                tag: 0,
-                problem: 0,
-                parameter: span,
-            };
-        }
-        Shown::Error {
+            parameter,
+            ..no_component()
+        },
+        Shown::Result { id, operation, .. } => ComponentView {
+            kind: 0xA2,
+            has_id: true,
+            id,
+            has_operation: operation.is_some(),
+            operation: operation.unwrap_or(0),
+            parameter,
+            ..no_component()
+        },
+        Shown::Error { id, code, .. } => ComponentView {
+            kind: 0xA3,
+            has_id: true,
             id,
             code,
-            parameter: _,
-        } => {
-            return ComponentView {
-                kind: 0xA3,
-                has_id: true,
-                id: id,
-                has_linked: false,
-                linked: 0,
-                has_operation: false,
-                operation: 0,
-                code: code,
-                tag: 0,
-                problem: 0,
-                parameter: span,
-            };
-        }
-        Shown::Reject { id, tag, problem } => {
-            return ComponentView {
-                kind: 0xA4,
-                has_id: has_id(id),
-                id: id_or_0(id),
-                has_linked: false,
-                linked: 0,
-                has_operation: false,
-                operation: 0,
-                code: 0,
-                tag: tag,
-                problem: problem,
-                parameter: span,
-            };
-        }
+            parameter,
+            ..no_component()
+        },
+        Shown::Reject { id, tag, problem } => ComponentView {
+            kind: 0xA4,
+            has_id: id.is_some(),
+            id: id.unwrap_or(0),
+            tag,
+            problem,
+            parameter,
+            ..no_component()
+        },
     }
 }
 
@@ -212,12 +119,12 @@ pub fn component_view(s: &[u8], shown: Shown, end: usize) -> ComponentView
     requires { (parameter_length shown ≤ end) × (end ≤ length s.now) }
     ensures { result ≡ component_view (2 + length s.now) (some (record { component = shown_seen (take end s.now) shown; behind = drop end s.now })) }
 {
-    let n = components::shown::parameter_length(shown);
-    let span = Span {
+    let n = shown.parameter_length();
+    let parameter = Span {
         start: 2 + end - n,
         end: 2 + end,
     };
-    view_of(shown, span)
+    view_of(shown, parameter)
 }
 
 pub fn no_text() -> TextView
@@ -232,39 +139,34 @@ pub fn no_text() -> TextView
 }
 
 // The text that a component is told with, whose Facility value ends at a place of s.
-pub fn text_view(s: &[u8], shown: Shown, end: usize, text: Ussd) -> TextView
+pub fn text_view(s: &[u8], shown: Shown, end: usize, text: Option<Ussd>) -> TextView
     requires { ((parameter_length shown ≤ end) × (end ≤ length s.now)) × TextTold (shown_seen (take end s.now) shown) text }
     ensures { result ≡ text_view (2 + length s.now) (some (record { component = shown_seen (take end s.now) shown; behind = drop end s.now })) }
 {
-    let Ussd::Says {
-        scheme,
-        start: from,
-        end: to,
-    } = text
-    else {
+    let Some(told) = text else {
         return no_text();
     };
-    let at = end - components::shown::parameter_length(shown);
+    let at = end - shown.parameter_length();
     TextView {
         is_there: true,
-        scheme: scheme,
+        scheme: told.scheme,
         string: Span {
-            start: 2 + at + from,
-            end: 2 + at + to,
+            start: 2 + at + told.start,
+            end: 2 + at + told.end,
         },
         tail: Span {
-            start: 2 + at + to,
+            start: 2 + at + told.end,
             end: 2 + end,
         },
     }
 }
 
 // The part of a cause element, found in s.
-pub fn cause_view(s: &[u8], cause: MaybePart) -> CauseView
+pub fn cause_view(s: &[u8], cause: Option<Span>) -> CauseView
     requires { PartWithin s.now cause }
     ensures { result ≡ cause_view (2 + length s.now) (part_found s.now cause) }
 {
-    let MaybePart::Between { start, end } = cause else {
+    let Some(part) = cause else {
         return CauseView {
             is_there: false,
             contents: Span { start: 0, end: 0 },
@@ -273,8 +175,8 @@ pub fn cause_view(s: &[u8], cause: MaybePart) -> CauseView
     CauseView {
         is_there: true, // an 08, maybe empty
         contents: Span {
-            start: 2 + start,
-            end: 2 + end,
+            start: 2 + part.start,
+            end: 2 + part.end,
         },
     }
 }

@@ -1,5 +1,5 @@
 -- What the code's numbers mean: a side is one number, its octets joined, the first lowest.
-use Rattle.std.specs.Prelude.{ℕ, zero, suc, ◌+◌, ◌*◌, ◌/◌, ◌%◌, List, [], ◌∷◌, ◌≡◌, Bool, true, false, cond, ◌||◌, ℤ, length, eqb}
+use Rattle.std.specs.Prelude.{ℕ, zero, suc, ◌+◌, ◌*◌, ◌/◌, ◌%◌, List, [], ◌∷◌, ◌≡◌, Bool, true, false, cond, ◌||◌, Option, None, Some, ℤ, length, eqb}
 use Rattle.codes.specs.Ids.{octet_of}
 use Rattle.codes.specs.Operations.{begins, waits}
 use Rattle.sides.specs.Side.{Waiting, places, same_id, among, full, side_of, side_octets}
@@ -40,8 +40,17 @@ abbrev pub before : ℤ → List Waiting → ℕ
 before id [] = 0
 before id (w ∷ ws) = cond (same_id w.id id) 0 (suc (before id ws))
 
-abbrev pub found_in : ℤ → ℕ → Found
-found_in id side = record { place = before id (side_seen side); rest = shifted (before id (side_seen side)) side }
+-- where the first with this id stands, and whether one does
+abbrev pub place_of : ℤ → ℕ → Found
+place_of id side = record { place = before id (side_seen side); rest = shifted (before id (side_seen side)) side }
+
+abbrev pub found_in : ℤ → ℕ → Option Found
+found_in id side = cond (among id (side_seen side)) (Some (place_of id side)) None
+
+-- the number of an answer; 0 for none
+abbrev pub number_or0 : Option ℕ → ℕ
+number_or0 None = 0
+number_or0 (Some n) = n
 
 -- an invoke put behind the last that waits; nothing is added where there is no place, or no operation
 abbrev pub with_last : ℕ → ℤ → ℕ → ℕ

@@ -1,19 +1,19 @@
 -- The contracts leave one answer: two that say the same are equal.
 use mathlib.Core.Path.{◌≡◌, refl, sym, ap, ◌∙◌}
 use mathlib.Core.Bool.{true, false}
+use Prim.Native.Nat.{ℕ}
+use Rattle.std.specs.Prelude.{Option, None, Some}
 use Rattle.table.specs.Change.{ours, peers, opens, closes, adds, clears}
 use Rattle.table.specs.Change as spec
 use Rattle.table.specs.Seen.{named_seen, change_seen}
-use Rattle.table.specs.declared.Named.{Named}
-use Rattle.table.specs.declared.Named.TheVariants.{Nothing, At}
 use Rattle.table.specs.declared.Change.{Change}
 use Rattle.table.specs.declared.Change.TheVariants.{Opens, Closes, Adds, Clears}
 
-pub named-determined : (r q : Named) → named_seen r ≡ named_seen q → r ≡ q
-named-determined Nothing Nothing e = refl
-named-determined Nothing (At k) e = cc
-named-determined (At k) Nothing e = cc
-named-determined (At k) (At j) e = cc
+pub named-determined : (r q : Option ℕ) → named_seen r ≡ named_seen q → r ≡ q
+named-determined None None e = refl
+named-determined None (Some k) e = cc
+named-determined (Some k) None e = cc
+named-determined (Some k) (Some j) e = cc
 
 -- the code's change that a change is seen of
 abbrev change_of : spec.Change → Change

@@ -1,45 +1,16 @@
 -- Octets joined in one number, and a part of the table taken apart.
-use mathlib.Core.Path.{◌≡◌, refl, sym, ap, ◌∙◌}
+use mathlib.Core.Path.{◌≡◌, refl, sym, ◌∙◌}
 use mathlib.Core.Bool.{Bool, true, false, ◌&&◌}
 use mathlib.Core.List.{List, [], ◌∷◌}
-use Prim.Native.Nat.{ℕ, zero, suc, ◌+◌, ◌*◌, ◌/◌, ◌%◌, ◌<◌, ◌≤◌}
+use Prim.Native.Nat.{ℕ, zero, suc, ◌+◌, ◌*◌, ◌/◌, ◌%◌, ◌<◌}
 use native.Mathlib.Omega.{arith}
 use borrow.Author.Tests.{eqb-true, eqb-false, eq-eqb, ne_eqb}
 use lib.Dec.{eqb}
-use lib.ListN.{length, get_or}
-use lib.Seq.{ext_get_or}
+use lib.ListN.{length}
 use Rattle.octets.specs.Octets.{Octets}
-use Rattle.octets.specs.Part.{between}
-use Rattle.octets.proofs.PartLaws.{length-between, get_d_between}
 use Rattle.sides.specs.Side.{all_zero}
 use Rattle.sides.specs.Seen.{octets_in, octets_seen}
 use Rattle.table.specs.Raw.{join_of}
-
--- the eight octets from a place on
-abbrev eight_at : List ℕ → ℕ → List ℕ
-eight_at t i = get_or t i 0 ∷ get_or t (i + 1) 0 ∷ get_or t (i + 2) 0 ∷ get_or t (i + 3) 0 ∷ get_or t (i + 4) 0 ∷ get_or t (i + 5) 0 ∷ get_or t (i + 6) 0 ∷ get_or t (i + 7) 0 ∷ []
-
-eight-octet : (t : List ℕ) (i k : ℕ) → k < 8 → get_or (eight_at t i) k 0 ≡ get_or t (i + k) 0
-eight-octet t i zero l = let e : i ≡ i + 0 = omega arith in ap (λ (n : ℕ). get_or t n 0) e
-eight-octet t i (suc zero) l = refl
-eight-octet t i (suc (suc zero)) l = refl
-eight-octet t i (suc (suc (suc zero))) l = refl
-eight-octet t i (suc (suc (suc (suc zero)))) l = refl
-eight-octet t i (suc (suc (suc (suc (suc zero))))) l = refl
-eight-octet t i (suc (suc (suc (suc (suc (suc zero)))))) l = refl
-eight-octet t i (suc (suc (suc (suc (suc (suc (suc zero))))))) l = refl
-eight-octet t i (suc (suc (suc (suc (suc (suc (suc (suc k)))))))) l = absurd (omega arith)
-
-pub eight_is : (t : List ℕ) (i : ℕ) → i + 8 ≤ length t → between i (i + 8) t ≡ eight_at t i
-eight_is t i h =
-    let n : length (between i (i + 8) t) ≡ 8 = length-between i (i + 8) t h ∙ omega arith in
-    ext_get_or 0 (between i (i + 8) t) (eight_at t i) n
-    (λ k l. get_d_between i (i + 8) t k (omega (arith, n)) ∙ sym (eight-octet t i k (omega (arith, n))))
-
--- places joined are octets joined
-pub places-joined : (a b c d e f g h : ℕ)
-    → (a + 256 * b) + 65536 * ((c + 256 * d) + 65536 * ((e + 256 * f) + 65536 * (g + 256 * h))) ≡ join_of (a ∷ b ∷ c ∷ d ∷ e ∷ f ∷ g ∷ h ∷ [])
-places-joined a b c d e f g h = omega arith
 
 -- there and back
 pub join-below : (n : ℕ) (s : List ℕ) → length s ≡ n → Octets s → n ≡ 8 → join_of s < 18446744073709551616
@@ -83,23 +54,7 @@ pub all-zero : (s : List ℕ) → all_zero s ≡ eqb (join_of s) 0
 all-zero [] = refl
 all-zero (a ∷ s) = zero-step a (join_of s) (all_zero s) (all-zero s)
 
--- a side as it is read, place by place
-pub side-read : (t : List ℕ) (at p q r s : ℕ) → at + 8 ≤ length t
-    → p ≡ get_or t at 0 + 256 * get_or t (at + 1) 0 → q ≡ get_or t (at + 2) 0 + 256 * get_or t (at + 2 + 1) 0
-    → r ≡ get_or t (at + 4) 0 + 256 * get_or t (at + 4 + 1) 0 → s ≡ get_or t (at + 6) 0 + 256 * get_or t (at + 6 + 1) 0
-    → (get_or t at 0 < 256) × (get_or t (at + 1) 0 < 256) → (get_or t (at + 2) 0 < 256) × (get_or t (at + 2 + 1) 0 < 256)
-    → (get_or t (at + 4) 0 < 256) × (get_or t (at + 4 + 1) 0 < 256) → (get_or t (at + 6) 0 < 256) × (get_or t (at + 6 + 1) 0 < 256)
-    → (p + 65536 * (q + 65536 * (r + 65536 * s)) ≡ join_of (between at (at + 8) t)) × Octets (between at (at + 8) t)
-side-read t at p q r s h a b c d k l m n =
-    let x : at + 2 + 1 ≡ at + 3 = omega arith in
-    let y : at + 4 + 1 ≡ at + 5 = omega arith in
-    let z : at + 6 + 1 ≡ at + 7 = omega arith in
-    rw (eight_is t at h, ← x, ← y, ← z) (
-      rw (a, b, c, d) (places-joined (get_or t at 0) (get_or t (at + 1) 0) (get_or t (at + 2) 0) (get_or t (at + 2 + 1) 0) (get_or t (at + 4) 0) (get_or t (at + 4 + 1) 0) (get_or t (at + 6) 0) (get_or t (at + 6 + 1) 0)),
-      (k.0, (k.1, (l.0, (l.1, (m.0, (m.1, (n.0, (n.1, tt)))))))),
-    )
-
--- and as it is written, octet by octet
+-- a side as it is written, octet by octet
 pub side-written : (side : ℕ) → ◌≡◌ {A = List ℕ} (side % 256 ∷ side / 256 % 256 ∷ side / 65536 % 256 ∷ side / 16777216 % 256 ∷ side / 4294967296 % 256 ∷ side / 1099511627776 % 256
     ∷ side / 281474976710656 % 256 ∷ side / 72057594037927936 % 256 ∷ []) (octets_seen side)
 side-written side =

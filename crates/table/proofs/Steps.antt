@@ -1,19 +1,25 @@
 -- What the code's proofs cite: the test of an entry and of the image, the named entry, the scan for a closed value, and what a change
 -- writes.
-use mathlib.Core.Path.{◌≡◌, refl, sym, ap, ◌∙◌}
-use mathlib.Core.Bool.{Bool, true, false, not, ◌&&◌, false≢true}
+use mathlib.Core.Path.{◌≡◌, refl, sym, ap, subst, ◌∙◌}
+use mathlib.Core.Bool.{Bool, true, false, cond, ◌&&◌, false≢true}
+use Rattle.std.proofs.Math.Bool.{and-true, and-false}
+use Rattle.std.proofs.Common.{set}
 use mathlib.Core.List.{List, [], ◌∷◌, ◌++◌}
 use mathlib.Core.Option.{none, some}
-use Prim.Native.Nat.{ℕ, suc, ◌+◌, ◌*◌, ◌-◌, ◌<◌, ◌≤◌}
-use native.Mathlib.Nat.{le_antisymm}
-use native.Mathlib.Numerals.{add-one}
+use Rattle.std.specs.Prelude.{Option, None, Some, MatchOption, MatchBool}
+use Rattle.std.specs.List.{AllWithin, HoldsAt}
+use Prim.Native.Nat.{ℕ, zero, suc, ◌+◌, ◌-◌, ◌*◌, ◌/◌, ◌<◌, ◌≤◌}
 use native.Mathlib.Omega.{arith}
-use borrow.Author.Tests.{eq-eqb, ne_eqb, le-leb, lt-leb}
+use borrow.Author.Tests.{ne_eqb, lt-leb}
 use lib.Dec.{eqb}
 use lib.IntN.{ℤ}
-use lib.ListN.{length, get_or, length-append}
-use Rattle.octets.specs.Octets.{Octets}
+use lib.ListN.{length, get_or, take, drop, length-append}
+use lib.Seq.{ext_get_or}
+use Rattle.std.specs.Simd.{first_chunks}
+use Rattle.std.proofs.lemmas.List.{drop-drop}
 use Rattle.octets.specs.Part.{between}
+use Rattle.octets.proofs.PartLaws.{length-between, get_d_between}
+use Rattle.octets.specs.Octets.{Octets}
 use Rattle.octets.specs.Splice.{splice}
 use Rattle.octets.proofs.SpliceLaws.{splice-splice}
 use Rattle.octets.proofs.TestLaws.{both}
@@ -23,14 +29,14 @@ use Rattle.codes.proofs.IdLaws.{IsId, is-id}
 use Rattle.sides.specs.Side.{Waiting, places, full, without, each_listed, holds_side, side_of, side_octets, all_zero, sound_side}
 use Rattle.sides.specs.Seen.{octets_seen, with_last, without_id}
 use Rattle.sides.proofs.SideLaws.{Ids, held_of, held-ids, side-back, fit_of, held-listed, last-octets, cleared-octets, ids-less, ids-last, zero-sound}
-use Rattle.table.specs.Table.{Entry, closed, size, named, Image, image_in, image_at, sound_image, state_of, entry_of, entry_at, sound_entries, valid, entry_octets, with_entry, lowest_from, holds}
+use Rattle.table.specs.Table.{Entry, closed, size, Image, image_in, image_at, sound_image, state_of, entry_of, entry_at, valid, entry_octets, with_entry, lowest_from, lowest_closed, holds}
 use Rattle.table.specs.Change.{changed, with_change}
-use Rattle.table.specs.Seen.{slot_seen, change_seen}
+use Rattle.table.specs.Seen.{slot_seen, change_seen, FindsClosed}
 use Rattle.table.specs.Raw.{join_of, slot_of, IsOctets, slot_octets, slot_changed, ChangeFits}
 use Rattle.table.specs.declared.Slot.{Slot}
 use Rattle.table.specs.declared.Change.{Change}
 use Rattle.table.proofs.Joined.{join-below, joined-seen, all-zero}
-use Rattle.table.proofs.TableLaws.{begins-none, waits-none, Eight, image-in, eight-in, fits-at, valid-entry, entry_in, holds_parts, settled-own, settled-peer}
+use Rattle.table.proofs.TableLaws.{begins-none, waits-none, Eight, image-in, eight-in, each-valid, fits-at, valid-entry, entry_in, holds_parts, settled-own, settled-peer}
 
 -- the numbers of an image say its entry
 pub slot_is : (i : Image) → Eight i → IsOctets i → slot_seen (slot_of i) ≡ entry_of i
@@ -40,67 +46,32 @@ slot_is i l o = rw (joined-seen i.own l.0 o.0, joined-seen i.peer l.1 o.1)
 -- a closed entry is sound if all is 0
 two : (listed : ℕ → Bool) (s : List ℕ) (b : Bool) → length s ≡ 8 → all_zero s ≡ b → b ≡ (sound_side listed s && b)
 two listed s true l e = rw (zero-sound listed 4 s l e)
-two listed s false l e = go (sound_side listed s)
-  where
-    go : (x : Bool) → false ≡ (x && false)
-    go true = refl
-    go false = refl
+two listed s false l e = sym (and-false (sound_side listed s))
 
 both_zero : (a b x y : Bool) → a ≡ (x && a) → b ≡ (y && b) → (a && b) ≡ (x && y && (a && b))
-both_zero true true x y e f = go x y e f
-  where
-    go : (x y : Bool) → true ≡ (x && true) → true ≡ (y && true) → true ≡ (x && y && true)
-    go true true p q = refl
-    go true false p q = q
-    go false y p q = p
-both_zero true false x y e f = go x y
-  where
-    go : (x y : Bool) → false ≡ (x && y && false)
-    go true true = refl
-    go true false = refl
-    go false y = refl
-both_zero false b x y e f = go x y
-  where
-    go : (x y : Bool) → false ≡ (x && y && false)
-    go true true = refl
-    go true false = refl
-    go false y = refl
+both_zero true true x y e f = rw (sym (e ∙ and-true x), sym (f ∙ and-true y))
+both_zero true false x y e f = sym (and-false (x && y))
+both_zero false b x y e f = sym (and-false (x && y))
 
-pub closed_is : (i : Image) → Eight i → i.state ≡ 0 → (eqb (join_of i.own) 0 && eqb (join_of i.peer) 0) ≡ sound_image i
+pub closed_is : (i : Image) (state : ℕ) (slot : Slot) → i.state ≡ state → slot ≡ slot_of i → Eight i → state ≡ 0 → (eqb slot.own 0 && eqb slot.peer 0) ≡ sound_image i
 unfolding sound_image entry_of state_of
-closed_is i l e =
-    rw (e, ← all-zero i.own, ← all-zero i.peer)
+closed_is i state slot z r l e =
+    rw (r, z ∙ e, ← all-zero i.own, ← all-zero i.peer)
     (both_zero (all_zero i.own) (all_zero i.peer) (sound_side begins i.own) (sound_side waits i.peer) (two begins i.own (all_zero i.own) l.0 refl) (two waits i.peer (all_zero i.peer) l.1 refl))
 
-and-true : (b : Bool) → b ≡ (b && true)
-and-true true = refl
-and-true false = refl
-
-pub open_is : (i : Image) (s : ℕ) (p q : Bool) → Eight i → IsOctets i → (i.state ≡ 0 → ⊥) → s ≡ state_of (slot_seen (slot_of i))
-    → p ≡ sound_side begins (octets_seen (join_of i.own)) → q ≡ sound_side waits (octets_seen (join_of i.peer))
-    → (eqb i.state s && p && q) ≡ sound_image i
+-- an open one by its state and its sides
+pub open_is : (i : Image) (state s : ℕ) (slot : Slot) → i.state ≡ state → slot ≡ slot_of i → Eight i → IsOctets i → (state ≡ 0 → ⊥) → s ≡ state_of (slot_seen slot)
+    → (eqb state s && sound_side begins (octets_seen slot.own) && sound_side waits (octets_seen slot.peer)) ≡ sound_image i
 unfolding sound_image
-open_is i s p q l o n e f g =
-    rw (e, f, g, slot_is i l o, joined-seen i.own l.0 o.0, joined-seen i.peer l.1 o.1, ne_eqb i.state 0 n) (and-true _)
+open_is i state s slot z r l o n e =
+    rw (e, r, ← z, slot_is i l o, joined-seen i.own l.0 o.0, joined-seen i.peer l.1 o.1, ne_eqb i.state 0 (λ k. n (sym z ∙ k))) (sym (and-true _))
 
-pub open_told : (i : Image) (state s : ℕ) (slot : Slot) (p q : Bool) → i.state ≡ state → slot ≡ slot_of i → Eight i → IsOctets i → (i.state ≡ 0 → ⊥) → s ≡ state_of (slot_seen slot)
-    → p ≡ sound_side begins (octets_seen slot.own) → q ≡ sound_side waits (octets_seen slot.peer) → (eqb state s && p && q) ≡ sound_image i
-open_told i state s slot p q z r l o n e f g =
-    rw (← z)
-    (open_is i s p q l o n (e ∙ ap (λ (x : Slot). state_of (slot_seen x)) r) (f ∙ ap (λ (x : Slot). sound_side begins (octets_seen x.own)) r) (g ∙ ap (λ (x : Slot). sound_side waits (octets_seen x.peer)) r))
-
--- the octets of an entry, by its parts
-pub slot_read : (t : List ℕ) (k at own peer : ℕ) → at ≡ size * k → own ≡ join_of (between (at + 1) (at + 1 + 8) t) → peer ≡ join_of (between (at + 9) (at + 9 + 8) t)
-    → Octets (between (at + 1) (at + 1 + 8) t) → Octets (between (at + 9) (at + 9 + 8) t)
-    → ◌≡◌ {A = Slot} (record { «open» = not (eqb (get_or t at 0) 0); own = own; peer = peer }) (slot_of (image_in t k)) × IsOctets (image_in t k)
-slot_read t k at own peer e p q x y =
-    let a : at + 1 + 8 ≡ at + 9 = omega arith in
-    let b : at + 9 + 8 ≡ at + 17 = omega arith in
-    let c = rw (a, e) at x in
-    let d = rw (b, e) at y in
-    let f : own ≡ join_of (between (size * k + 1) (size * k + 9) t) = rw (a, e) at p in
-    let g : peer ≡ join_of (between (size * k + 9) (size * k + 17) t) = rw (b, e) at q in
-    (rw (f, g, e), (c, d))
+-- one octet written
+pub set-splice : (d : List ℕ) (i v : ℕ) → i < length d → set d i v ≡ splice d i (v ∷ [])
+unfolding splice
+set-splice [] i v l = absurd (omega arith)
+set-splice (a ∷ d) zero v l = refl
+set-splice (a ∷ d) (suc i) v l = let e : suc i + 1 ≡ suc (i + 1) = omega arith in rw e (ap (λ (s : List ℕ). a ∷ s) (set-splice d i v (omega arith)))
 
 -- the three writings are one
 pub slot-written : (t u v w : List ℕ) (k at s : ℕ) (e : Slot) → at ≡ size * k → s ≡ state_of (slot_seen e) → size * k + size ≤ length t → u ≡ splice t at (s ∷ [])
@@ -118,51 +89,113 @@ pub past_end : (t : List ℕ) (k : ℕ) → length t < size * k + size
 unfolding entry_at entry_of
 past_end t k h = (rw (lt-leb (size * k + size) (length t) h), rw (lt-leb (size * k + size) (length t) h))
 
-pub within : (t : List ℕ) (k : ℕ) (r : Slot) → size * k + size ≤ length t → r ≡ slot_of (image_in t k) → IsOctets (image_in t k)
+-- an entry by its octets
+nested : (t : List ℕ) (a b i j : ℕ) → b ≤ length t → i ≤ j → a + j ≤ b → between i j (between a b t) ≡ between (a + i) (a + j) t
+nested t a b i j h l m =
+    let p : length (between a b t) ≡ b - a = length-between a b t h in
+    let n : length (between i j (between a b t)) ≡ j - i = length-between i j (between a b t) (omega arith) in
+    let d : length (between (a + i) (a + j) t) ≡ a + j - (a + i) = length-between (a + i) (a + j) t (omega arith) in
+    ext_get_or 0 (between i j (between a b t)) (between (a + i) (a + j) t) (n ∙ omega (arith, d))
+    (λ k x.
+    let e : a + (i + k) ≡ a + i + k = omega arith in
+    get_d_between i j (between a b t) k (omega (arith, n))
+    ∙ get_d_between a b t (i + k) (omega (arith, n))
+    ∙ ap (λ (z : ℕ). get_or t z 0) e
+    ∙ sym (get_d_between (a + i) (a + j) t k (omega (arith, n))))
+
+pub part-image : (t : List ℕ) (k : ℕ) → size * k + size ≤ length t → image_in (between (size * k) (size * k + size) t) 0 ≡ image_in t k
+part-image t k h =
+    let z : size * k + 0 ≡ size * k = omega arith in
+    let s = get_d_between (size * k) (size * k + size) t 0 (omega arith) in
+    rw (
+      s,
+      z,
+      nested t (size * k) (size * k + size) 1 9 h (omega arith) (omega arith),
+      nested t (size * k) (size * k + size) 9 17 h (omega arith) (omega arith),
+    )
+
+pub eight-of : (s : List ℕ) → length s ≡ size → Eight (image_in s 0)
+eight-of s h = eight-in s 0 (omega arith)
+
+pub within : (t : List ℕ) (k : ℕ) (s : List ℕ) (r : Slot) → size * k + size ≤ length t → s ≡ between (size * k) (size * k + size) t → r ≡ slot_of (image_in s 0) → IsOctets (image_in s 0)
     → (r ≡ slot_of (image_at t k)) × (slot_seen r ≡ entry_at t k)
-within t k r h e o = (rw (image-in t k h) e, ap slot_seen e ∙ slot_is (image_in t k) (eight-in t k h) o ∙ sym (entry_in t k h))
+within t k s r h p e o =
+    let i : image_in s 0 ≡ image_in t k = ap (λ (x : List ℕ). image_in x 0) p ∙ part-image t k h in
+    let q = e ∙ ap slot_of i in
+    (rw (image-in t k h) q, ap slot_seen q ∙ slot_is (image_in t k) (eight-in t k h) (subst IsOctets i o) ∙ sym (entry_in t k h))
 
 -- the image: another length, and every entry looked at
-pub other_length : (t : List ℕ) → (length t ≡ 238 → ⊥) → false ≡ valid t
+pub other_length : (t : List ℕ) → (length t ≡ 238 → ⊥) → eqb (length t) 238 ≡ valid t
 unfolding valid
 other_length t n = rw (ne_eqb (length t) 238 n)
 
-pub all_seen : (t : List ℕ) (k : ℕ) → length t ≡ 238 → k ≤ 14 → 14 ≤ k → sound_entries t k ≡ valid t
-unfolding valid
-all_seen t k e l g = rw (eq-eqb (length t) 238 e) (ap (sound_entries t) (le_antisymm l g))
+chunk-at : (n : ℕ) (t : List ℕ) (k : ℕ) (d : List ℕ) → k < n → get_or (first_chunks size n t) k d ≡ take size (drop (size * k) t)
+chunk-at zero t k d l = absurd (omega arith)
+chunk-at (suc n) t zero d l = refl
+chunk-at (suc n) t (suc k) d l =
+    let e : size + size * k ≡ size * suc k = omega arith in
+    chunk-at n (drop size t) k d (omega arith) ∙ ap (take size) (drop-drop (size * k) size t ∙ ap (λ (i : ℕ). drop i t) e)
 
-pub one_more : (t : List ℕ) (k : ℕ) → size * k + size ≤ length t → sound_entries t (k + 1) ≡ (sound_entries t k && sound_image (image_in t k))
-unfolding sound_entries
-one_more t k h = rw (add-one k, image-in t k h)
+chunks-length : (n : ℕ) (t : List ℕ) → length (first_chunks size n t) ≡ n
+chunks-length zero t = refl
+chunks-length (suc n) t = ap suc (chunks-length n (drop size t))
 
--- the entry that a flag and a value name
-module _ (flag value : ℕ) where
-  pub no_flag : 1 < flag → none ≡ named flag value
-  no_flag h = rw (lt-leb flag 1 h)
+module _ (t : List ℕ) (l : length t ≡ 238) (es : List (List ℕ)) (c : es ≡ first_chunks size (length t / size) t) where
+  fourteen : es ≡ first_chunks size 14 t
+  fourteen = let e : length t / size ≡ 14 = omega arith in rw e at c
 
-  pub no_value_lem : flag ≤ 1 → 6 < value → none ≡ named flag value
-  no_value_lem g h = rw (le-leb flag 1 g, lt-leb value 6 h)
+  fourteen-long : length es ≡ 14
+  fourteen-long = rw fourteen (chunks-length 14 t)
 
-  pub ours : flag ≤ 1 → value ≤ 6 → flag ≡ 1 → some value ≡ named flag value
-  ours g h e = rw (le-leb flag 1 g, le-leb value 6 h, eq-eqb flag 1 e)
+  seen-at : (k : ℕ) → k < 14 → image_in (get_or es k []) 0 ≡ image_in t k
+  seen-at k m =
+      let e : size ≡ size * k + size - size * k = omega arith in
+      let p : get_or es k [] ≡ between (size * k) (size * k + size) t = rw fourteen (chunk-at 14 t k [] m ∙ ap (λ (n : ℕ). take n (drop (size * k) t)) e) in
+      ap (λ (x : List ℕ). image_in x 0) p ∙ part-image t k (omega arith)
 
-  pub theirs : flag ≤ 1 → value ≤ 6 → (flag ≡ 1 → ⊥) → some (7 + value) ≡ named flag value
-  theirs g h n = rw (le-leb flag 1 g, le-leb value 6 h, ne_eqb flag 1 n)
+  pub all_seen : (r : Bool)
+      → MatchBool r (AllWithin (λ e. sound_image (image_in e 0) ≡ true) es 0 (length es)) ((k : ℕ) × (k < length es) × HoldsAt (λ e. sound_image (image_in e 0) ≡ false) es k)
+      → r ≡ valid t
+  all_seen true h =
+      sym (each-valid t l (λ k m. rw (image-in t k (omega arith)) (subst (λ (i : Image). sound_image i ≡ true) (seen-at k m) (h k [] (omega arith) (omega (arith, fourteen-long))))))
+  all_seen false h = go (valid t) refl
+    where
+      m : h.0 < 14
+      m = omega (arith, fourteen-long, h.1)
 
--- a turn of the scan: past an open value, and at a closed one
-module _ (t : List ℕ) (v : ℕ) (o : Bool) (e : o ≡ (entry_at t v).is_open) (l : v < 7) where
-  next-is : 7 - v ≡ suc (6 - v)
-  next-is = omega arith
+      go : (b : Bool) → valid t ≡ b → false ≡ b
+      go true v = sym (subst (λ (i : Image). sound_image i ≡ false) (seen-at h.0 m) (h.2 [])) ∙ valid-entry t h.0 v m
+      go false v = refl
 
-  pub past_open : o ≡ true → lowest_from t (v + 1) (7 - (v + 1)) ≡ lowest_from t v (7 - v)
-  unfolding lowest_from
-  past_open h =
-      let n : 7 - (v + 1) ≡ 6 - v = omega arith in
-      rw (next-is, n, add-one v, ← e, h)
+-- the first closed entry is the lowest closed
+none-closed : (t : List ℕ) (v n : ℕ) → ((k : ℕ) → v ≤ k → k < v + n → (entry_at t k).is_open ≡ true) → none ≡ lowest_from t v n
+unfolding lowest_from
+none-closed t v zero h = refl
+none-closed t v (suc n) h = rw (h v (omega arith) (omega arith)) (none-closed t (suc v) n (λ k l m. h k (omega arith) (omega arith)))
 
-  pub at-closed : o ≡ false → some v ≡ lowest_from t v (7 - v)
-  unfolding lowest_from
-  at-closed h = rw (next-is, ← e, h)
+closed-step : (t : List ℕ) (v n i : ℕ) → v ≤ i → (entry_at t i).is_open ≡ false → ((k : ℕ) → v ≤ k → k < i → (entry_at t k).is_open ≡ true)
+    → (v < i → some i ≡ lowest_from t (suc v) n) → (o : Bool) → (entry_at t v).is_open ≡ o → some i ≡ cond o (lowest_from t (suc v) n) (some v)
+closed-step t v n i l c h g true e =
+    let z : v ≡ i → ⊥ = λ z. false≢true (sym c ∙ ap (λ (k : ℕ). (entry_at t k).is_open) (sym z) ∙ e) in
+    g (omega arith)
+closed-step t v n i l c h g false e =
+    let z : v < i → ⊥ = λ z. false≢true (sym e ∙ h v (omega arith) z) in
+    ap some (omega arith)
+
+first-closed : (t : List ℕ) (v n i : ℕ) → v ≤ i → i < v + n → (entry_at t i).is_open ≡ false → ((k : ℕ) → v ≤ k → k < i → (entry_at t k).is_open ≡ true)
+    → some i ≡ lowest_from t v n
+unfolding lowest_from
+first-closed t v zero i a b c h = absurd (omega arith)
+first-closed t v (suc n) i a b c h =
+    closed-step t v n i a c h (λ l. first-closed t (suc v) n i l (omega arith) c (λ k x y. h k (omega arith) y)) (entry_at t v).is_open refl
+
+pub lowest-is : (t : List ℕ) (r : Option ℕ)
+    → MatchOption r ((k : ℕ) → 0 ≤ k → k < 7 → (entry_at t k).is_open ≡ true)
+    (λ i. (0 ≤ i) × (i < 7) × ((entry_at t i).is_open ≡ false) × ((k : ℕ) → 0 ≤ k → k < i → (entry_at t k).is_open ≡ true))
+    → FindsClosed t r
+unfolding lowest_closed
+lowest-is t None h = none-closed t 0 7 h
+lowest-is t (Some i) h = first-closed t 0 7 i h.0 h.1 h.2 h.3
 
 -- the entry that is written: its numbers are its octets
 module _ (slot : Slot) (e : Entry) (h : holds e ≡ true) (i : Ids e.own) (j : Ids e.peer) where

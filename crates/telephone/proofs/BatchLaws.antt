@@ -5,8 +5,8 @@ use mathlib.Core.List.{List, [], ◌∷◌, ◌++◌}
 use mathlib.Core.Bool.{true, false}
 use native.Mathlib.Omega.{arith}
 use native.Mathlib.Numerals.{add-one}
-use lib.ListN.{length, drop, set, get_or, replicate, length-append, length-drop, length-set, drop_of_length-le}
-use lib.Seq.{drop-drop, drop-set-lt, take-suc-set, append_snoc, get_or-drop, take_at, drop_at, paste-zero}
+use lib.ListN.{length, drop, set, get_or, replicate, length-append, length-set}
+use lib.Seq.{drop-drop, drop-set-lt, take-suc-set, append_snoc, take_at, drop_at, paste-zero}
 use lib.Dec.{leb}
 use borrow.Author.Tests.{le-leb, lt-leb, leb-true}
 use Rattle.octets.specs.Part.{between}
@@ -28,18 +28,18 @@ use Rattle.telephone.specs.declared.batch.Batched.{Batched}
 use Rattle.telephone.proofs.OutcomeLaws.{sent-room}
 
 -- the part that the code hands on is the record's message
-pub message-is : (s : List ℕ) (at : ℕ) → IsRecord (drop at s)
-    → (at + 1 + get_or s at 0 ≤ length s)
-    × (one_record (drop at s) ≡ took (between (at + 1) (at + 1 + get_or s at 0) s) (drop (at + 1 + length (between (at + 1) (at + 1 + get_or s at 0) s)) s))
-message-is s at (g, e) =
+pub message-is : (s : List ℕ) → IsRecord s
+    → (1 + get_or s 0 0 ≤ length s)
+    × (one_record s ≡ took (between 1 (1 + get_or s 0 0) s) (drop (1 + length (between 1 (1 + get_or s 0 0) s)) s))
+message-is s (g, e) =
     let v = g.value in
-    let w = (record-was (drop at s) g e).0 in
-    let n : get_or s at 0 ≡ length v = ap (λ (k : ℕ). get_or s k 0) (let z : at ≡ at + 0 = omega arith in z) ∙ sym (get_or-drop at s 0 0) ∙ ap (λ (r : List ℕ). get_or r 0 0) w in
-    let l : length s - at ≡ suc (length v + length g.rest) = sym (length-drop at s) ∙ ap length w ∙ ap suc (length-append v g.rest) in
-    let r : drop (at + 1) s ≡ v ++ g.rest = sym (drop-drop 1 at s) ∙ ap (drop 1) w in
-    let k : at + 1 + length v - (at + 1) ≡ length v = omega arith in
-    let p : between (at + 1) (at + 1 + length v) s ≡ v = rw (k, r) (take_at v g.rest (length v) refl) in
-    let q : drop (at + 1 + length v) s ≡ g.rest = sym (drop-drop (length v) (at + 1) s) ∙ rw r (drop_at v g.rest (length v) refl) in
+    let w = (record-was s g e).0 in
+    let n : get_or s 0 0 ≡ length v = ap (λ (r : List ℕ). get_or r 0 0) w in
+    let l : length s ≡ suc (length v + length g.rest) = ap length w ∙ ap suc (length-append v g.rest) in
+    let r : drop 1 s ≡ v ++ g.rest = ap (drop 1) w in
+    let k : 1 + length v - 1 ≡ length v = omega arith in
+    let p : between 1 (1 + length v) s ≡ v = rw (k, r) (take_at v g.rest (length v) refl) in
+    let q : drop (1 + length v) s ≡ g.rest = sym (drop-drop (length v) 1 s) ∙ rw r (drop_at v g.rest (length v) refl) in
     (rw n (omega arith), rw (n, p, q) e)
 
 -- the room of a slot
@@ -81,28 +81,26 @@ filled d at code written reply o h p q r =
     rw (← p, ← q, ← r, e, splice-cons (set d at code) (at + 1) written reply (simp length-set (omega arith)))
     (splice-cons d at code (written ∷ reply) (omega arith))
 
--- so far: the records from i on are left to feed, and the next slot is at a place
+-- so far: the rest of the records is left to feed, and the next slot is at a place
 
-pub record Feeding (table₀ records output₀ table output : List ℕ) (i at : ℕ) : Type 0 where
+pub record Feeding (table₀ records output₀ table output rest : List ℕ) (at : ℕ) : Type 0 where
   pub all : List (List ℕ)
   pub left : List (List ℕ)
   pub whole : messages_in records ≡ sound all
-  pub behind : messages_in (drop i records) ≡ sound left
-  pub within : i ≤ length records
+  pub behind : messages_in rest ≡ sound left
   pub room : at + slot_length * length left ≤ length output
   pub as_long : length output ≡ length output₀
   pub table-as-long : length table ≡ length table₀
   pub output-is : splice output at (slots_of (outcomes fed table left)) ≡ splice output₀ 0 (slots_of (outcomes fed table₀ all))
   pub table_is_lem : table_after fed table left ≡ table_after fed table₀ all
 
-pub feeding-first : (table records output : List ℕ) → CanFeed records (length output) → Feeding table records output table output 0 0
+pub feeding-first : (table records output : List ℕ) → CanFeed records (length output) → Feeding table records output table output records 0
 feeding-first table records output (all, (e, h)) =
     record {
       all = all;
       left = all;
       whole = e;
       behind = e;
-      within = omega arith;
       room = omega arith;
       as_long = refl;
       table-as-long = refl;
@@ -110,29 +108,29 @@ feeding-first table records output (all, (e, h)) =
       table_is_lem = refl;
     }
 
-module _ {table₀ records output₀ table output : List ℕ} {i at : ℕ} (f : Feeding table₀ records output₀ table output i at) where
-  pub feeding-record : i < length records → IsRecord (drop i records)
-  feeding-record h = first-is (drop i records) f.left (simp length-drop (omega arith)) f.behind
+module _ {table₀ records output₀ table output rest : List ℕ} {at : ℕ} (f : Feeding table₀ records output₀ table output rest at) where
+  pub feeding-record : 0 < length rest → IsRecord rest
+  feeding-record h = first-is rest f.left h f.behind
 
-  module _ (m : List ℕ) (e : one_record (drop i records) ≡ took m (drop (i + 1 + length m) records)) where
+  module _ (m : List ℕ) (e : one_record rest ≡ took m (drop (1 + length m) rest)) where
     -- what is left begins with it
-    first-left : {C : Type 0} → ((others : List (List ℕ)) → messages_in (drop (i + 1 + length m) records) ≡ sound others → f.left ≡ m ∷ others → C) → C
+    first-left : {C : Type 0} → ((others : List (List ℕ)) → messages_in (drop (1 + length m) rest) ≡ sound others → f.left ≡ m ∷ others → C) → C
     first-left next =
-        through (messages_in (drop (i + 1 + length m) records)) _ f.left (sym (messages-step (drop i records) _ e) ∙ f.behind) λ others p q.
+        through (messages_in (drop (1 + length m) rest)) _ f.left (sym (messages-step rest _ e) ∙ f.behind) λ others p q.
         next others p (sym (sound-inj q))
 
     -- there is a slot for it, and it ends within the records
-    pub feeding-within : (at + slot_length ≤ length output) × (i + 1 + length m ≤ length records)
+    pub feeding-within : (at + slot_length ≤ length output) × (1 + length m ≤ length rest)
     feeding-within =
-        let rest = drop (i + 1 + length m) records in
-        let w = record-was (drop i records) (record { value = m; rest = rest }) e in
-        let l : length records - i ≡ suc (length m + length rest) = sym (length-drop i records) ∙ ap length w.0 ∙ ap suc (length-append m rest) in
+        let behind = drop (1 + length m) rest in
+        let w = record-was rest (record { value = m; rest = behind }) e in
+        let l : length rest ≡ suc (length m + length behind) = ap length w.0 ∙ ap suc (length-append m behind) in
         (first-left λ others p q. let h : at + slot_length * length (m ∷ others) ≤ length output = subst (λ (l : List (List ℕ)). at + slot_length * length l ≤ length output) q f.room in omega arith, omega arith)
 
-    pub feeding-step : (table' output' : List ℕ) (next : ℕ) → table' ≡ (fed table m).table → output' ≡ splice output at (slot (fed table m)) → length table' ≡ length table
-        → length output' ≡ length output → next ≡ i + 1 + length m → Feeding table₀ records output₀ table' output' next (at + slot_length)
+    pub feeding-step : (table' output' rest' : List ℕ) → table' ≡ (fed table m).table → output' ≡ splice output at (slot (fed table m)) → length table' ≡ length table
+        → length output' ≡ length output → rest' ≡ drop (1 + length m) rest → Feeding table₀ records output₀ table' output' rest' (at + slot_length)
     unfolding outcomes slots_of table_after
-    feeding-step table' output' next a b k l n =
+    feeding-step table' output' rest' a b k l n =
         first-left λ others p q.
         let h : at + slot_length * length (m ∷ others) ≤ length output = subst (λ (r : List (List ℕ)). at + slot_length * length r ≤ length output) q f.room in
         let x : slots_of (outcomes fed table f.left) ≡ slot (fed table m) ++ slots_of (outcomes fed (fed table m).table others) = ap (λ (r : List (List ℕ)). slots_of (outcomes fed table r)) q in
@@ -143,7 +141,6 @@ module _ {table₀ records output₀ table output : List ℕ} {i at : ℕ} (f : 
           left = others;
           whole = f.whole;
           behind = rw n p;
-          within = rw n feeding-within.1;
           room = rw l (omega arith);
           as_long = l ∙ f.as_long;
           table-as-long = k ∙ f.table-as-long;
@@ -155,9 +152,9 @@ module _ {table₀ records output₀ table output : List ℕ} {i at : ℕ} (f : 
         }
 
   -- none is left
-  module _ (h : length records ≤ i) (messages : List (List ℕ)) (e : messages_in records ≡ sound messages) where
+  module _ (h : rest ≡ []) (messages : List (List ℕ)) (e : messages_in records ≡ sound messages) where
     none_left : f.left ≡ []
-    none_left = sym (sound-inj (sym messages-none ∙ ap messages_in (sym (drop_of_length-le records h)) ∙ f.behind))
+    none_left = sym (sound-inj (sym messages-none ∙ ap messages_in (sym h) ∙ f.behind))
 
     all-fed : f.all ≡ messages
     all-fed = sound-inj (sym f.whole ∙ e)

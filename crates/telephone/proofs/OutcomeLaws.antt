@@ -23,7 +23,7 @@ use Rattle.calling.specs.Calls.{Sending}
 use Rattle.telephone.specs.Outcome.{untouched}
 use Rattle.telephone.specs.Receive.{sent_by, act}
 use Rattle.telephone.specs.Calls.{call_outcome}
-use Rattle.telephone.proofs.Paths.{splice-none}
+use Rattle.telephone.proofs.Paths.{splice_none}
 
 -- a message written at the front: it stands there, and what stood behind it stays
 pub front-is : (b x : List ℕ) → take (length x) (splice b 0 x) ≡ x
@@ -50,7 +50,7 @@ module _ (t m b : List ℕ) where
   -- verdicts 1, 6 and 7, and the refusals 28 and 27
   pub silent-untouched : (code : ℕ) → act t m b (silent code) ≡ untouched t b code
   unfolding act
-  silent-untouched code = ap (λ (x : List ℕ). record { code = code; written = 0; value = 0; shown = none; cause = none; buffer = x; table = t }) (sym (splice-none b))
+  silent-untouched code = ap (λ (x : List ℕ). record { code = code; written = 0; value = 0; shown = none; cause = none; buffer = x; table = t }) (sym (splice_none b))
 
   pub reply-is : (d : Decision) → take (act t m b d).written (act t m b d).buffer ≡ sent_by m d
   unfolding act

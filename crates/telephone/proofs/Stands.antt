@@ -21,7 +21,7 @@ use Rattle.messages.specs.Scan.{required, first_taken}
 use Rattle.messages.proofs.ScanLaws.{required-was, laid-ends, taken-ends}
 use Rattle.table.specs.Table.{Entry}
 use Rattle.judging.specs.StepSix.{Judged, problem, accepted, judge_invoke, judge_result, judge_error}
-use Rattle.showing.specs.declared.Span.{Span}
+use Rattle.octets.specs.declared.Span.{Span}
 use Rattle.showing.specs.Views.{span_of, standing, LiesIn, view_of, component_view, text_in, text_view, cause_view}
 use Rattle.deciding.specs.Decision.{Decision, shown_by}
 use Rattle.deciding.specs.Steps.{step_four, on_judged, step_six, five_and_six, four_to_six, in_release, on_release}

@@ -1,9 +1,8 @@
 -- What C gets of an outcome: every field is told by it.
-use Rattle.std.specs.Prelude.{ℕ, ◌≡◌, List}
+use Rattle.std.specs.Prelude.{ℕ, ◌≡◌, List, None}
 use Rattle.std.proofs.Math.Option.{Option}
 use Rattle.octets.specs.Reader.{Taken}
 use Rattle.octets.specs.Seen.{part_found, PartWithin}
-use Rattle.octets.specs.declared.MaybePart.{MaybePart}
 use Rattle.components.specs.Shows.{Shows}
 use Rattle.showing.specs.Views.{component_view, text_view, cause_view}
 use Rattle.telephone.specs.Outcome.{Outcome}
@@ -32,10 +31,16 @@ abbrev pub ActedAs : List ℕ → Acted → Outcome → Type 0
 ActedAs s r o = (r.code ≡ o.code) × ((r.written ≡ o.written) × ((part_found s r.cause ≡ o.cause) × PartWithin s r.cause))
 
 abbrev pub without_cause : ℕ → ℕ → Acted
-without_cause code written = record { code = code; written = written; cause = MaybePart.Nothing }
+without_cause code written = record { code = code; written = written; cause = None }
 
 abbrev pub called_of : Outcome → Called
 called_of o = record { code = o.code; value = o.value; written = o.written }
+
+abbrev pub refused_call : ℕ → Called
+refused_call code = record { code = code; value = 0; written = 0 }
+
+abbrev pub sent_call : ℕ → ℕ → Called
+sent_call value written = record { code = 0; value = value; written = written }
 
 abbrev pub batched_of : Batch → Batched
 batched_of b = record { code = b.code; slots = b.slots }

@@ -8,7 +8,7 @@ use Rattle.components.specs.Component.{parameter_of}
 use Rattle.components.specs.Shows.{Shows}
 use Rattle.components.specs.Texts.{text_of}
 use Rattle.showing.specs.Views.{standing, LiesIn}
-use Rattle.showing.specs.declared.Span.{Span}
+use Rattle.octets.specs.declared.Span.{Span}
 use Rattle.telephone.specs.Outcome.{Outcome}
 use Rattle.telephone.specs.Receive.{receive}
 use Rattle.telephone.specs.FromC.{received_of}

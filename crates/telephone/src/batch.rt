@@ -1,5 +1,6 @@
 // Recorded messages, fed one by one.
 ghost use Rattle.std.specs.Prelude.{◌≡◌, ◌+◌, ◌≤◌, length, drop};
+ghost use Rattle.codes.specs.Refusals.{number_of};
 ghost use Rattle.octets.specs.Part.{place_at};
 ghost use Rattle.octets.specs.Reader.{took};
 ghost use Rattle.octets.specs.Splice.{splice};
@@ -9,7 +10,7 @@ ghost use Rattle.telephone.specs.FromC.{batched_of, refused_batch};
 ghost use Rattle.telephone.specs.Feeding.{IsRecord, CanFeed, FedOutput, FedTable};
 
 use crate::receive::smr_receive;
-use records::Count;
+use codes::refusals::Refusal;
 
 // 0 or the number of the refusal; how many slots are written.
 #[repr(C)]
@@ -19,14 +20,14 @@ pub struct Batched {
     pub slots: usize,
 }
 
-// The message of the record at a place, as a part of the caller's own records.
-fn message_at(records: &[u8], at: usize) -> &[u8]
-    requires { IsRecord (drop at records.now) }
-    ensures octets { one_record (drop at records.now) ≡ took result.now (drop (at + 1 + length result.now) records.now) }
-    ensures place { result.ref_ptr ≡ place_at (at + 1) records.entry.ref_ptr }
+// The message of the record at the front, as a part of the caller's own records.
+fn message_at(records: &[u8]) -> &[u8]
+    requires { IsRecord records.now }
+    ensures octets { one_record records.now ≡ took result.now (drop (1 + length result.now) records.now) }
+    ensures place { result.ref_ptr ≡ place_at 1 records.entry.ref_ptr }
 {
-    let n = records[at] as usize;
-    &records[at + 1..at + 1 + n]
+    let n = records[0] as usize;
+    &records[1..1 + n]
 }
 
 // Receives a message, and fills the slot at a place.
@@ -48,21 +49,21 @@ fn feed(table: &mut [u8], records: &[u8], output: &mut [u8])
     ensures output { FedOutput table.old records.now output.old output.new }
     ensures table { FedTable table.old records.now table.new }
 {
-    let mut i = 0;
-    let mut at = 0;
-    while i < records.len() {
-        let message = message_at(records, i);
+    let mut rest = records;
+    let mut at = 0; // a slot is told by its place: the output is lent on as a whole
+    while !rest.is_empty() {
+        let message = message_at(rest);
         fill_slot(table, message, output, at);
-        i += 1 + message.len();
+        rest = &rest[1 + message.len()..];
         at += 14;
     }
 }
 
-fn refused(code: u8) -> Batched
-    ensures { result ≡ refused_batch code }
+fn refused(refusal: Refusal) -> Batched
+    ensures { result ≡ refused_batch (number_of refusal) }
 {
     Batched {
-        code: code,
+        code: refusal.number(),
         slots: 0,
     }
 }
@@ -74,13 +75,13 @@ pub fn smr_batch(table: &mut [u8], records: &[u8], output: &mut [u8]) -> Batched
     ensures table { table.new ≡ (batch table.old records.now output.old).table }
 {
     if !table::is_valid(table) {
-        return refused(28);
+        return refused(Refusal::TableDamaged);
     }
-    let Count::Whole(n) = records::count_records(records) else {
-        return refused(30);
+    let Some(n) = records::count_records(records) else {
+        return refused(Refusal::BadRecord);
     };
     if output.len() / 14 < n {
-        return refused(31);
+        return refused(Refusal::OutputTooShort);
     }
     feed(table, records, output);
     Batched { code: 0, slots: n }

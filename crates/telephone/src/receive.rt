@@ -10,7 +10,7 @@ ghost use Rattle.telephone.specs.Stands.{IsShownParameter, shown_start};
 ghost use Rattle.telephone.specs.FromC.{shown_as, received_of, without_cause, ActedAs};
 
 use deciding::{Act, Decision, Told};
-use octets::MaybePart;
+use octets::Span;
 use showing::{CauseView, ComponentView, TextView};
 use table::Change;
 
@@ -26,29 +26,27 @@ pub struct Received {
 }
 
 // What is shown, with the numbers of the call.
-fn show(s: &[u8], code: u8, written: usize, told: Told, cause: MaybePart) -> Received
+#[tactic(auto, unfolding(showing::specs::Views::component_view, showing::specs::Views::text_view))]
+fn show(s: &[u8], code: u8, written: usize, told: Option<Told>, cause: Option<Span>) -> Received
     requires { ToldWithin s.now told × PartWithin s.now cause }
     ensures { result ≡ shown_as (2 + length s.now) code written (told_seen s.now told) (part_found s.now cause) }
 {
-    match told {
-        Told::Nothing => {
-            return Received {
-                code: code,
-                written: written,
-                shown: showing::no_component(),
-                text: showing::no_text(),
-                cause: showing::cause_view(s, cause),
-            };
-        }
-        Told::Is { shown, end, text } => {
-            return Received {
-                code: code,
-                written: written,
-                shown: showing::component_view(s, shown, end),
-                text: showing::text_view(s, shown, end, text),
-                cause: showing::cause_view(s, cause),
-            };
-        }
+    let cause = showing::cause_view(s, cause);
+    let Some(Told { shown, end, text }) = told else {
+        return Received {
+            code,
+            written,
+            shown: showing::no_component(),
+            text: showing::no_text(),
+            cause,
+        };
+    };
+    Received {
+        code,
+        written,
+        shown: showing::component_view(s, shown, end),
+        text: showing::text_view(s, shown, end, text),
+        cause,
     }
 }
 
@@ -65,7 +63,7 @@ fn close(table: &mut [u8], k: u8)
 pub struct Acted {
     pub code: u8,
     pub written: usize,
-    pub cause: MaybePart,
+    pub cause: Option<Span>,
 }
 
 // What is done without a cause.
@@ -73,13 +71,14 @@ fn done(code: u8, written: usize) -> Acted
     ensures { result ≡ without_cause code written }
 {
     Acted {
-        code: code,
-        written: written,
-        cause: MaybePart::Nothing,
+        code,
+        written,
+        cause: None,
     }
 }
 
 // The table of verdicts: what is sent, and what becomes of the entry.
+#[tactic(auto, unfolding(crate::specs::Receive::act), using(crate::proofs::Paths::splice_none))]
 fn act(table: &mut [u8], message: &[u8], reply: &mut [u8], decision: Decision) -> Acted
     requires { (is_silent decision ≡ false → Ready table.old message.now (length reply.old)) × (DecisionWithin (drop 2 message.now) decision × Keeps (entry_at table.old (picked_entry message.now)) (decision_seen (drop 2 message.now) decision)) }
     ensures returned { ActedAs (drop 2 message.now) result (act table.old message.now reply.old (decision_seen (drop 2 message.now) decision)) }
@@ -88,37 +87,40 @@ fn act(table: &mut [u8], message: &[u8], reply: &mut [u8], decision: Decision) -
 {
     let k = deciding::picked_entry(message);
     let first = deciding::reply_first(message);
-    let act = decision.act;
-    match act {
-        Act::Silent(code) => {
-            return done(code, 0);
-        }
-        Act::WithCause(number) => {
-            let written = sending::put_release_cause(reply, first, number);
+    match decision.act {
+        Act::Silent(silence) => done(silence.number(), 0),
+        Act::WithCause(cause) => {
+            let written = sending::put_release_cause(reply, first, cause.number());
             close(table, k);
-            return done(2, written);
+            done(2, written)
         }
-        Act::WithReject { id, tag, number } => {
-            let written = sending::put_release_reject(reply, first, id, tag, number);
+        Act::WithReject { id, problem } => {
+            let written = sending::put_release_reject(
+                reply,
+                first,
+                id,
+                problem.tag(),
+                problem.number(),
+            );
             close(table, k);
-            return done(3, written);
+            done(3, written)
         }
         Act::OnReject => {
             let written = sending::put_release(reply, first);
             close(table, k);
-            return done(4, written);
+            done(4, written)
         }
         Act::Released(cause) => {
             close(table, k);
-            return Acted {
+            Acted {
                 code: 5,
                 written: 0,
-                cause: cause,
-            };
+                cause,
+            }
         }
         Act::Taken(change) => {
             table::change_entry(table, k, change);
-            return done(0, 0);
+            done(0, 0)
         }
     }
 }
@@ -131,10 +133,8 @@ pub fn smr_receive(table: &mut [u8], message: &[u8], reply: &mut [u8]) -> Receiv
 {
     let decision = deciding::decide(table, message, reply.len());
     let acted = act(table, message, reply, decision);
-    let told = decision.told;
-    let cause = acted.cause;
     let s = octets::part(message, 2, message.len());
-    show(s, acted.code, acted.written, told, cause)
+    show(s, acted.code, acted.written, decision.told, acted.cause)
 }
 
 // The parameter of the component that a message shows, as a part of the caller's own message.
@@ -142,7 +142,6 @@ pub fn shown_parameter(message: &[u8], received: Received) -> &[u8]
     ensures octets { IsShownParameter message.now received result.now }
     ensures place { result.ref_ptr ≡ place_at (shown_start message.now received) message.entry.ref_ptr }
 {
-    let shown = received.shown;
-    let parameter = shown.parameter;
+    let parameter = received.shown.parameter;
     octets::part(message, parameter.start, parameter.end)
 }

@@ -1,20 +1,22 @@
 -- What the definitions of the calls and of salvage say on each path through the code.
-use Rattle.std.proofs.Common.{◌≡◌, ℕ, ◌+◌, ◌/◌, ◌%◌, ◌<◌, ◌≤◌, true, false, eqb, List, [], ◌++◌, length, refl, ap, ◌∙◌, append-nil, arith, drop_of_length-le, eq-eqb, ne_eqb, le-leb}
+use Rattle.std.specs.Prelude.{Ok, Err}
+use Rattle.std.proofs.Common.{◌≡◌, ℕ, ◌+◌, ◌/◌, ◌%◌, ◌<◌, ◌≤◌, Bool, true, false, cond, eqb, List, [], ◌++◌, length, refl, sym, ap, ◌∙◌, arith, eq-eqb, ne_eqb, le-leb}
 use borrow.Author.Tests.{lt-leb}
 use Rattle.octets.specs.Part.{between}
 use Rattle.octets.specs.Reader.{Answer, fault, sound, and_then, check}
-use Rattle.octets.specs.Splice.{splice}
 use Rattle.octets.proofs.FaultLaws.{Faults}
-use Rattle.octets.proofs.SpliceLaws.{splice_front}
 use Rattle.trace.specs.Numbers.{four}
 use Rattle.trace.specs.Records.{Record, bad_record, good_record, record_octets}
 use Rattle.trace.specs.Blocks.{short_block, wrong_number, records_at, number_in, used_in, sealed, block_of, block_records, fault_of}
 use Rattle.trace.specs.Calls.{refused_by, done, begin_answer, begin_leaves, add_answer, with_record, add_leaves}
 use Rattle.trace.specs.Steps.{next_number, wrote, holds, hands_over}
 use Rattle.trace.specs.Salvage.{fate_by, fate_of, renumbered}
+use Rattle.trace.specs.Faults.{number_of, fault_named}
+use Rattle.trace.specs.declared.faults.Fault.{Fault}
 use Rattle.trace.specs.Seen.{mended}
+use Rattle.trace.specs.declared.Fate.{Fate}
 use Rattle.trace.specs.declared.Fate.TheVariants.{Kept, Renumbered, Dropped, Short}
-use Rattle.trace.proofs.FaultLaws.{OfBlock, block-faults, no-fault-sound}
+use Rattle.trace.proofs.FaultLaws.{OfBlock, block-faults, whole-faults, fault_back, not_0, no-fault-sound}
 
 pub begin-refused : (b : List ℕ) (n : ℕ) → (length b ≡ 512 → ⊥) → (refused_by short_block ≡ begin_answer b) × (b ≡ begin_leaves b n)
 unfolding begin_answer begin_leaves
@@ -25,6 +27,10 @@ unfolding begin_answer begin_leaves
 begin-done b n h = let e = eq-eqb (length b) 512 h in (rw e, rw e)
 
 module _ (b : List ℕ) (r : Record) where
+  pub add-short : (length b ≡ 512 → ⊥) → (refused_by short_block ≡ add_answer b r) × (b ≡ add_leaves b r)
+  unfolding add_answer add_leaves block_records
+  add-short h = let e = ne_eqb (length b) 512 h in (rw e, rw e)
+
   pub add-refused : (fault_of (block_records b) ≡ 0 → ⊥) → (refused_by (fault_of (block_records b)) ≡ add_answer b r) × (b ≡ add_leaves b r)
   unfolding add_answer add_leaves
   add-refused h = let e = ne_eqb (fault_of (block_records b)) 0 h in (rw e, rw e)
@@ -51,22 +57,21 @@ module _ (b : List ℕ) (r : Record) where
 
 -- salvage
 
-by-short : (kept number : ℕ) (o : Answer (List Record)) → fault_of o ≡ 32 → Short ≡ fate_by kept number o
-by-short kept number (fault n) e = rw (eq-eqb n 32 e)
-by-short kept number (sound row) e = absurd (omega arith)
+pub fate-short : (kept : ℕ) (b : List ℕ) → (length b ≡ 512 → ⊥) → (Short ≡ fate_of kept b) × (b ≡ mended kept b (fate_of kept b))
+unfolding fate_of block_records
+fate-short kept b h = let e = ne_eqb (length b) 512 h in (rw e, rw e)
 
-pub fate-short : (kept : ℕ) (b : List ℕ) → fault_of (block_records b) ≡ 32 → (Short ≡ fate_of kept b) × (b ≡ mended kept b (fate_of kept b))
+past : (t : Bool) (x y : Fate) → t ≡ false → y ≡ cond t x y
+past t x y e = rw e
+
+by-dropped : (kept number : ℕ) (f : Fault) (o : Answer (List Record)) → Faults (λ n. 32 < n) o → number_of f ≡ fault_of o → Dropped number (number_of f) ≡ fate_by kept number o
+by-dropped kept number f (fault n) h e = ap (Dropped number) e ∙ past (eqb n 32) _ _ (ne_eqb n 32 (λ z. omega arith))
+by-dropped kept number f (sound row) h e = absurd (not_0 f e)
+
+pub fate-dropped : (kept : ℕ) (b : List ℕ) (f : Fault) → length b ≡ 512 → number_of f ≡ fault_of (block_records b)
+    → (Dropped (number_in b) (number_of f) ≡ fate_of kept b) × (b ≡ mended kept b (fate_of kept b))
 unfolding fate_of
-fate-short kept b h = let e = by-short kept (number_in b) (block_records b) h in (e, ap (mended kept b) e)
-
-by-dropped : (kept number : ℕ) (o : Answer (List Record)) → (fault_of o ≡ 32 → ⊥) → (fault_of o ≡ 0 → ⊥) → Dropped number (fault_of o) ≡ fate_by kept number o
-by-dropped kept number (fault n) h z = rw (ne_eqb n 32 h)
-by-dropped kept number (sound row) h z = absurd (z refl)
-
-pub fate-dropped : (kept : ℕ) (b : List ℕ) → (fault_of (block_records b) ≡ 32 → ⊥) → (fault_of (block_records b) ≡ 0 → ⊥)
-    → (Dropped (number_in b) (fault_of (block_records b)) ≡ fate_of kept b) × (b ≡ mended kept b (fate_of kept b))
-unfolding fate_of
-fate-dropped kept b h z = let e = by-dropped kept (number_in b) (block_records b) h z in (e, ap (mended kept b) e)
+fate-dropped kept b f l h = let e = by-dropped kept (number_in b) f (block_records b) (whole-faults b l) h in (e, ap (mended kept b) e)
 
 by-kept : (kept number : ℕ) (o : Answer (List Record)) → Faults OfBlock o → fault_of o ≡ 0 → number ≡ kept → Kept ≡ fate_by kept number o
 by-kept kept number (fault n) f h e = let l = f.0 in absurd (omega arith)
@@ -103,29 +108,29 @@ fate-moved kept b h q =
 -- the writer's step
 
 module _ (held : List ℕ) (number : ℕ) (r : Record) (full : List ℕ) where
-  pub wrote-refused : ((add_answer held r).code ≡ 0 → ⊥)
-      → (record { code = (add_answer held r).code; number = number; is_full = false } ≡ wrote held number r) × ((add_leaves held r ≡ holds held number r) × (full ≡ hands_over full held r))
+  pub wrote-refused : (f : Fault) → refused_by (number_of f) ≡ add_answer held r
+      → (Err f ≡ wrote held number r) × ((add_leaves held r ≡ holds held number r) × (full ≡ hands_over full held r))
   unfolding wrote holds hands_over
-  wrote-refused h = let e = ne_eqb (add_answer held r).code 0 h in (rw e, (rw e, rw e))
+  wrote-refused f e = let z = ne_eqb (number_of f) 0 (not_0 f) in (rw (← e, z, fault_back f), (rw (← e, z), rw (← e, z)))
 
-  module _ (z : (add_answer held r).code ≡ 0) where
-    pub wrote-added : (add_answer held r).added ≡ true
-        → (record { code = 0; number = number; is_full = false } ≡ wrote held number r) × ((add_leaves held r ≡ holds held number r) × (full ≡ hands_over full held r))
-    unfolding wrote holds hands_over
-    wrote-added h = let e = eq-eqb (add_answer held r).code 0 z in (rw (e, h), (rw (e, h), rw (e, h)))
+  pub wrote-added : done true ≡ add_answer held r
+      → (Ok (record { number = number; is_full = false }) ≡ wrote held number r) × ((add_leaves held r ≡ holds held number r) × (full ≡ hands_over full held r))
+  unfolding wrote holds hands_over
+  wrote-added e = (rw (← e), (rw (← e), rw (← e)))
 
-    pub wrote-full : (left : List ℕ) → left ≡ add_leaves held r → length full ≡ length left → (add_answer held r).added ≡ false
-        → (record { code = 0; number = next_number number; is_full = true } ≡ wrote held number r)
-        × ((add_leaves (block_of (next_number number) []) r ≡ holds held number r) × (splice full 0 left ≡ hands_over full held r))
-    unfolding wrote holds hands_over add_leaves
-    wrote-full left q l h =
-        let e = eq-eqb (add_answer held r).code 0 z in
-        let s : left ≡ held = q ∙ rw h in
-        (rw (e, h), (rw (e, h), splice_front full left ∙ ap (λ (t : List ℕ). left ++ t) (drop_of_length-le full {i = length left} (omega arith)) ∙ append-nil left ∙ s ∙ rw (e, h)))
+  pub wrote-full : done false ≡ add_answer held r
+      → (Ok (record { number = next_number number; is_full = true }) ≡ wrote held number r)
+      × ((add_leaves (block_of (next_number number) []) r ≡ holds held number r) × (add_leaves held r ≡ hands_over full held r))
+  unfolding wrote holds hands_over add_leaves
+  wrote-full e = (rw (← e), (rw (← e), rw (← e)))
 
 -- a block at its place
 
 module _ (place : ℕ) (b : List ℕ) where
+  pub at-short : (length b ≡ 512 → ⊥) → short_block ≡ fault_of (records_at place b)
+  unfolding records_at block_records
+  at-short h = rw (ne_eqb (length b) 512 h)
+
   pub at-fault : (fault_of (block_records b) ≡ 0 → ⊥) → fault_of (block_records b) ≡ fault_of (records_at place b)
   unfolding records_at
   at-fault h = go (block_records b) h

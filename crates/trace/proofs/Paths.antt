@@ -8,39 +8,35 @@ use Rattle.records.specs.Records.{one_record}
 use Rattle.octets.proofs.FaultLaws.{Faults}
 use Rattle.trace.specs.Numbers.{sum_of}
 use Rattle.trace.specs.Records.{Record, bad_record, trace_record, records_in}
-use Rattle.trace.specs.Blocks.{short_block, wrong_sum, wrong_use, sum_in, used_in, record_part, rest_part, all_zero, block_records, fault_of}
+use Rattle.trace.specs.Blocks.{wrong_sum, wrong_use, sum_in, used_in, record_part, rest_part, all_zero, block_records, fault_of}
 use Rattle.trace.specs.Seen.{is_sound}
 use Rattle.trace.proofs.RecordLaws.{records-fault}
 
 -- a record
 module _ (s : List ℕ) where
-  pub no-octet : length s < 1 → fault bad_record ≡ trace_record s
+  pub no-octet : length s ≤ 0 → fault bad_record ≡ trace_record s
   unfolding trace_record
-  no-octet h = rw (octet-cut bad_record 0 s (omega arith))
+  no-octet h = rw (octet-cut bad_record 0 s h)
 
-  module _ (l : 0 < length s) where
-    pub no-direction : 1 < get_or s 0 0 → fault bad_record ≡ trace_record s
+  module _ (d : ℕ) (f : d ≡ get_or s 0 0) (l : 0 < length s) where
+    pub no-direction : 1 < d → fault bad_record ≡ trace_record s
     unfolding trace_record
-    no-direction h = rw (octet-at bad_record 0 s l, lt-leb (get_or s 0 0) 1 h)
+    no-direction h = rw (octet-at bad_record 0 s l, ← f, lt-leb d 1 h)
 
-    module _ (d : get_or s 0 0 ≤ 1) where
+    module _ (h : d ≤ 1) where
       pub no-message : (n : ℕ) → fault n ≡ one_record (drop 1 s) → fault bad_record ≡ trace_record s
       unfolding trace_record
-      no-message n e = rw (octet-at bad_record 0 s l, le-leb (get_or s 0 0) 1 d, ← e)
+      no-message n e = rw (octet-at bad_record 0 s l, ← f, le-leb d 1 h, ← e)
 
       pub whole-record : (start end : ℕ) → start ≡ 1 → took (between start end (drop 1 s)) (drop end (drop 1 s)) ≡ one_record (drop 1 s)
-          → took (record { direction = get_or s 0 0; message = between 2 (1 + end) s }) (drop (1 + end) s) ≡ trace_record s
+          → took (record { direction = d; message = between 2 (1 + end) s }) (drop (1 + end) s) ≡ trace_record s
       unfolding trace_record
       whole-record start end q e =
           let k : 1 + end - 2 ≡ end - 1 = omega arith in
-          rw (octet-at bad_record 0 s l, le-leb (get_or s 0 0) 1 d, ← e, q, drop-drop end 1 s, drop-drop 1 1 s, k)
+          rw (octet-at bad_record 0 s l, ← f, le-leb d 1 h, ← e, q, drop-drop end 1 s, drop-drop 1 1 s, k)
 
 -- a block
 module _ (b : List ℕ) where
-  pub is-short : (length b ≡ 512 → ⊥) → short_block ≡ fault_of (block_records b)
-  unfolding block_records
-  is-short h = rw (ne_eqb (length b) 512 h)
-
   module _ (l : length b ≡ 512) where
     pub bad_sum_lem : (sum_of (take 510 b) ≡ sum_in b → ⊥) → wrong_sum ≡ fault_of (block_records b)
     unfolding block_records

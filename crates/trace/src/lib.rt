@@ -2,6 +2,7 @@
 #![tactic(auto)]
 
 mod blocks;
+pub mod faults;
 pub mod places;
 pub mod reading;
 pub mod salvage;
@@ -9,9 +10,11 @@ pub mod writing;
 
 ghost use Rattle.std.specs.Prelude.{◌≡◌};
 ghost use Rattle.trace.specs.Calls.{begin_answer, begin_leaves, add_answer, add_leaves};
+ghost use Rattle.trace.specs.Seen.{answer_of};
 
-use crate::blocks::{begin_block, block_fault, pair_at, put_record};
-use crate::reading::is_good;
+use crate::blocks::begin_block;
+use crate::faults::Fault;
+use crate::writing::add_record;
 
 // The refusal, or 0; whether the block has what was wanted.
 #[repr(C)]
@@ -30,12 +33,16 @@ pub enum Fate {
     Short,
 }
 
-fn answer(code: u8, added: bool) -> Traced
-    ensures { result ≡ record { code = code; added = added } }
+// As C sees it.
+fn answer(outcome: Result<bool, Fault>) -> Traced
+    ensures { result ≡ answer_of outcome }
 {
-    Traced {
-        code: code,
-        added: added,
+    match outcome {
+        Ok(added) => Traced { code: 0, added },
+        Err(fault) => Traced {
+            code: fault.number(),
+            added: false,
+        },
     }
 }
 
@@ -44,11 +51,11 @@ pub fn smr_trace_begin(block: &mut [u8], number: u32) -> Traced
     ensures answer { result ≡ begin_answer block.old }
     ensures block { block.new ≡ begin_leaves block.old number }
 {
-    if block.len() != 512 {
-        return answer(32, false);
-    }
+    let Some(block) = block.as_mut_array() else {
+        return answer(Err(Fault::WrongLength));
+    };
     begin_block(block, number);
-    answer(0, true)
+    answer(Ok(true))
 }
 
 // A record behind those of a block.
@@ -56,17 +63,8 @@ pub fn smr_trace_add(block: &mut [u8], direction: u8, message: &[u8]) -> Traced
     ensures answer { result ≡ add_answer block.old (record { direction = direction; message = message.now }) }
     ensures block { block.new ≡ add_leaves block.old (record { direction = direction; message = message.now }) }
 {
-    let fault = block_fault(block);
-    if fault != 0 {
-        return answer(fault, false);
+    match block.as_mut_array() {
+        Some(block) => answer(add_record(block, direction, message)),
+        None => answer(Err(Fault::WrongLength)),
     }
-    if !is_good(direction, message) {
-        return answer(35, false);
-    }
-    let used = pair_at(block, 4);
-    if 504 < used + 2 + message.len() {
-        return answer(0, false);
-    }
-    put_record(block, used, direction, message);
-    answer(0, true)
 }

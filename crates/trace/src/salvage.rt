@@ -11,35 +11,26 @@ pub fn mend_block(block: &mut [u8], kept: u64) -> Fate
     ensures fate { result ≡ fate_of kept block.old }
     ensures block { block.new ≡ mended kept block.old (fate_of kept block.old) }
 {
-    let fault = block_fault(block);
-    if fault == 32 {
+    let Some(block) = block.as_mut_array() else {
         return Fate::Short;
-    }
+    };
     let number = number_in(block);
-    if fault != 0 {
+    if let Err(fault) = block_fault(block) {
         return Fate::Dropped {
-            number: number,
-            fault: fault,
+            number,
+            fault: fault.number(),
         };
     }
     if number as u64 == kept {
         return Fate::Kept;
     }
     put_number(block, (kept % 4294967296) as u32);
-    Fate::Renumbered { number: number }
+    Fate::Renumbered { number }
 }
 
 // Whether the block is written.
 pub fn is_kept(fate: Fate) -> bool
     ensures { result ≡ is_kept fate }
 {
-    match fate {
-        Fate::Kept => true,
-        Fate::Renumbered { number: _ } => true,
-        Fate::Dropped {
-            number: _,
-            fault: _,
-        } => false,
-        Fate::Short => false,
-    }
+    matches!(fate, Fate::Kept | Fate::Renumbered { .. })
 }

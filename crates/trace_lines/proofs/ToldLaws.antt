@@ -14,7 +14,8 @@ use Rattle.octets.proofs.SpliceLaws.{splice_front}
 use Rattle.words.specs.Words.{blank, word_at, spelled, same}
 use Rattle.words.specs.Commands.{passed_over}
 use Rattle.words.specs.Hex.{hex}
-use Rattle.words.specs.declared.Word.{Word}
+use Rattle.std.specs.Prelude.{Some}
+use Rattle.octets.specs.declared.Span.{Span}
 use Rattle.words.specs.declared.Ending.{Ending}
 use Rattle.words.specs.declared.Ending.TheVariants.{Whole, Wrong, Long}
 use Rattle.trace_lines.specs.Shown.{received, sent}
@@ -25,13 +26,11 @@ use Rattle.trace_lines.specs.declared.told.Kind.TheVariants.{Passed, Onward, Fir
 
 -- octets joined to a record
 
-pub joins-wrong : (text : List ℕ) (ends : Ending) → ends ≡ (hex 255 text).ends → ends ≡ Wrong → (b : Begun) → none ≡ grown b text
+pub joins-bad : (text : List ℕ) (ends : Ending) → ends ≡ (hex 255 text).ends → (ends ≡ Whole → ⊥) → (b : Begun) → none ≡ grown b text
 unfolding grown
-joins-wrong text ends e w b = rw (← e, w)
-
-pub joins_long : (text : List ℕ) (ends : Ending) → ends ≡ (hex 255 text).ends → ends ≡ Long → (b : Begun) → none ≡ grown b text
-unfolding grown
-joins_long text ends e w b = rw (← e, w)
+joins-bad text Whole e w b = absurd (w refl)
+joins-bad text Wrong e w b = rw (← e)
+joins-bad text Long e w b = rw (← e)
 
 front-joined : (message octets : List ℕ) (count n : ℕ) → count ≤ length message → n ≡ length octets → take (count + n) (splice message count octets) ≡ take count message ++ octets
 unfolding splice
@@ -47,31 +46,27 @@ module _ (text : List ℕ) (count n : ℕ) (message : List ℕ) (l : length mess
   unfolding grown
   joins-over h = rw (← e, w, lt-leb (length b.message + length (hex 255 text).octets) 255 (let z = has in omega arith))
 
-  pub joins-whole : (put space row after : List ℕ) → put ≡ take n row → row ≡ splice space 0 (hex 255 text).octets → after ≡ splice message count put → count + n ≤ 255 → join_seen b after (count + n) ≡ grown b text
+  pub joins-whole : (put space row after : List ℕ) → put ≡ take n row → row ≡ splice space 0 (hex 255 text).octets → after ≡ splice message count put → count + n ≤ 255 → join_seen b after (Some (count + n)) ≡ grown b text
   unfolding grown
   joins-whole put space row after p r a h =
       let z = has in
       let o : put ≡ (hex 255 text).octets = p ∙ ap (take n) (r ∙ splice_front space (hex 255 text).octets) ∙ take_at (hex 255 text).octets (drop (length (hex 255 text).octets) space) n (sym k) in
       let m : take (count + n) after ≡ b.message ++ (hex 255 text).octets = ap (take (count + n)) (a ∙ ap (splice message count) o) ∙ front-joined message (hex 255 text).octets count n (omega arith) k ∙ ap (λ (t : List ℕ). t ++ (hex 255 text).octets) (sym q) in
-      rw (← e, w, le-leb (length b.message + length (hex 255 text).octets) 255 (omega arith), le-leb (count + n) 255 h, m)
+      rw (← e, w, le-leb (length b.message + length (hex 255 text).octets) 255 (omega arith), m)
 
 -- the first word of a line
 
-module _ (line : List ℕ) (first : Word) (f : first ≡ word_at line 0) (word : List ℕ) (w : word ≡ spelled line first) where
+module _ (line : List ℕ) (first : Span) (f : first ≡ word_at line 0) (word : List ℕ) (w : word ≡ spelled line first) where
   told : (k : Kind) → kind_by line word first.end ≡ k → k ≡ kind_of line
   unfolding kind_of
-  told k e = sym e ∙ ap (λ (t : List ℕ). kind_by line t first.end) w ∙ ap (λ (t : Word). kind_by line (spelled line t) t.end) f
+  told k e = sym e ∙ ap (λ (t : List ℕ). kind_by line t first.end) w ∙ ap (λ (t : Span). kind_by line (spelled line t) t.end) f
 
-  pub empty-line : length word ≡ 0 → Passed ≡ kind_of line
-  empty-line h = told Passed (go word h)
-    where
-      go : (s : List ℕ) → length s ≡ 0 → kind_by line s first.end ≡ Passed
-      go [] h = refl
-      go (a ∷ s) h = absurd (omega arith)
+  pub empty-line : word ≡ [] → Passed ≡ kind_of line
+  empty-line h = told Passed (rw h)
 
-  module _ (n : length word ≡ 0 → ⊥) where
-    by_first : (s : List ℕ) → (length s ≡ 0 → ⊥) → passed_over s ≡ eqb (get_or s 0 0) 35
-    by_first [] n = absurd (n refl)
+  module _ (n : 0 < length word) where
+    by_first : (s : List ℕ) → 0 < length s → passed_over s ≡ eqb (get_or s 0 0) 35
+    by_first [] n = absurd (omega arith)
     by_first (a ∷ s) n = refl
 
     pub comment-line : get_or word 0 0 ≡ 35 → Passed ≡ kind_of line
@@ -96,9 +91,9 @@ module _ (line : List ℕ) (first : Word) (f : first ≡ word_at line 0) (word :
           other-line h = told Other (rw (passes, b, r, h))
 
 -- a line with a word has a first octet
-pub some-octet : (line : List ℕ) (first : Word) (word : List ℕ) → word ≡ spelled line first → (length word ≡ 0 → ⊥) → 0 < length line
-some-octet [] first word w n = absurd (n (ap length (w ∙ none-between-nil first)))
+pub some-octet : (line : List ℕ) (first : Span) (word : List ℕ) → word ≡ spelled line first → 0 < length word → 0 < length line
+some-octet [] first word w n = let z : length word ≡ 0 = ap length (w ∙ none-between-nil first) in absurd (omega arith)
   where
-    none-between-nil : (t : Word) → spelled [] t ≡ []
+    none-between-nil : (t : Span) → spelled [] t ≡ []
     none-between-nil t = rw (drop-nil {A = ℕ} t.start, take-nil {A = ℕ} (t.end - t.start))
 some-octet (a ∷ line) first word w n = omega arith

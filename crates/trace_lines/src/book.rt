@@ -1,82 +1,86 @@
 // The record that ends with a line, written behind those of the block that is held.
 ghost use Rattle.std.specs.Prelude.{◌≡◌, ◌≤◌, length};
 ghost use Rattle.trace_lines.specs.Told.{kind_if};
-ghost use Rattle.trace_lines.specs.Desk.{Ready, Follows, PenIf, pen_seen};
+ghost use Rattle.trace_lines.specs.Desk.{Ready, count_of, pen_if, refused_with, Turns, pen_seen};
 ghost use Rattle.trace_lines.specs.Book.{book_after, held_after, full_after, settled, next_by, book_by};
 
-use crate::told::{Pen, follow, is_ending, kind_of, refuse};
+use crate::told::{Pen, follow, is_ending, kind_of};
 use trace::writing::write_record;
 
-// Whether the block that is held has a record, and its number; whether one was handed over, and the line that is refused.
+// Whether the block that is held has a record, and its number, which it has before the first record too; whether one was handed
+// over, and the line that is refused.
 #[derive(Clone, Copy)]
 pub struct Book {
     pub is_open: bool,
     pub number: u32,
     pub is_full: bool,
-    pub refused: u64,
+    pub refused: Option<u64>,
 }
 
 pub fn finish(
-    pen: Pen,
+    pen: Option<Pen>,
     message: &[u8],
     held: &mut [u8; 512],
     full: &mut [u8; 512],
     book: Book,
 ) -> Book
-    requires { pen.count ≤ length message.now }
+    requires { count_of pen ≤ length message.now }
     ensures book { result ≡ book_after (pen_seen pen message.now) held.old book }
     ensures held { held.new ≡ held_after (pen_seen pen message.now) held.old book.number }
     ensures full { full.new ≡ full_after (pen_seen pen message.now) held.old full.old }
 {
-    if !pen.is_begun {
+    let Some(pen) = pen else {
         return Book {
-            is_open: book.is_open,
-            number: book.number,
             is_full: false,
-            refused: 0,
+            refused: None,
+            ..book
         };
-    }
-    let wrote = write_record(
+    };
+    let Ok(wrote) = write_record(
         held,
         full,
         book.number,
         pen.direction,
         &message[..pen.count],
-    );
-    if wrote.code != 0 {
+    ) else {
         return Book {
-            is_open: book.is_open,
-            number: book.number,
             is_full: false,
-            refused: pen.line,
+            refused: Some(pen.line),
+            ..book
         };
-    }
+    };
     Book {
         is_open: true,
         number: wrote.number,
         is_full: wrote.is_full,
-        refused: 0,
+        refused: None,
     }
 }
 
 // The record that is begun behind a line, and the book.
 #[derive(Clone, Copy)]
 pub struct Turn {
-    pub pen: Pen,
+    pub pen: Option<Pen>,
     pub book: Book,
 }
 
 // The record that is begun, where a test holds; else none.
-fn pen_if(pen: Pen, there: bool) -> Pen
-    requires { Ready pen }
-    ensures { PenIf pen there result }
+fn pen_if(pen: Option<Pen>, there: bool) -> Option<Pen>
+    ensures { result ≡ pen_if there pen }
 {
-    Pen {
-        is_begun: pen.is_begun & there,
-        direction: pen.direction,
-        count: pen.count,
-        line: pen.line,
-        refused: 0,
+    if there { pen } else { None }
+}
+
+// A line that is refused: no record is begun behind it.
+fn refuse(line: u64, book: Book) -> Turn
+    ensures { result ≡ refused_with line book }
+{
+    Turn {
+        pen: None,
+        book: Book {
+            refused: Some(line),
+            ..book
+        },
     }
 }
 
@@ -90,30 +94,20 @@ pub fn take_line(
     full: &mut [u8; 512],
     turn: Turn,
 ) -> Turn
-    requires { (1 ≤ n) × (Ready turn.pen × (length message.old ≡ 255)) }
-    ensures next { Follows (next_by (kind_if long line.now) line.now n (pen_seen turn.pen message.old) held.old turn.book) message.new result.pen }
+    requires { Ready turn.pen × (length message.old ≡ 255) }
+    ensures next { Turns (next_by (kind_if long line.now) line.now n (pen_seen turn.pen message.old) held.old turn.book) message.new result }
     ensures book { result.book ≡ book_by (kind_if long line.now) line.now n (pen_seen turn.pen message.old) held.old turn.book }
     ensures held { held.new ≡ held_after (settled (kind_if long line.now) (pen_seen turn.pen message.old)) held.old turn.book.number }
     ensures full { full.new ≡ full_after (settled (kind_if long line.now) (pen_seen turn.pen message.old)) held.old full.old }
 {
-    let pen = turn.pen;
     let kind = kind_of(line, long);
     let ended = is_ending(kind);
-    let book = finish(pen_if(pen, ended), message, held, full, turn.book);
-    if book.refused != 0 {
-        return Turn {
-            pen: refuse(book.refused),
-            book: book,
-        };
+    let book = finish(pen_if(turn.pen, ended), message, held, full, turn.book);
+    if let Some(refused) = book.refused {
+        return refuse(refused, book);
     }
-    let next = follow(kind, line, n, message, pen);
-    Turn {
-        pen: next,
-        book: Book {
-            is_open: book.is_open,
-            number: book.number,
-            is_full: book.is_full,
-            refused: next.refused,
-        },
+    match follow(kind, line, n, message, turn.pen) {
+        Ok(pen) => Turn { pen, book },
+        Err(refused) => refuse(refused, book),
     }
 }

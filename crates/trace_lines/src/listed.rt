@@ -5,27 +5,27 @@ ghost use Rattle.trace.specs.Salvage.{listed_by};
 ghost use Rattle.trace_lines.specs.Listed.{listed_lines};
 
 use crate::shown::four_line;
+use printing::page::Page;
 use trace::Fate;
+use trace::faults::Fault;
 
 // The line of a block at this place of the input, or none.
-pub fn list_line(page: &mut [u8; 80], fate: Fate, place: u64) -> usize
-    ensures { Filled 80 page.old (listed_lines (listed_by place fate)) page.new result }
+pub fn list_line(page: &mut Page<80>, fate: Fate, place: u64)
+    ensures { Filled 80 (listed_lines (listed_by place fate)) page.new }
 {
+    page.clear();
     match fate {
-        Fate::Kept => 0,
+        Fate::Kept => {}
         Fate::Renumbered { number } => {
-            four_line(page, 0, b"number ", number as u64, b" renumbered ", 36)
+            let fault = Fault::WrongNumber.number() as u64;
+            four_line(page, b"number ", number as u64, b" renumbered ", fault);
         }
         Fate::Dropped { number, fault } => {
-            four_line(
-                page,
-                0,
-                b"number ",
-                number as u64,
-                b" dropped ",
-                fault as u64,
-            )
+            four_line(page, b"number ", number as u64, b" dropped ", fault as u64);
         }
-        Fate::Short => four_line(page, 0, b"place ", place, b" dropped ", 32),
+        Fate::Short => {
+            let fault = Fault::WrongLength.number() as u64;
+            four_line(page, b"place ", place, b" dropped ", fault);
+        }
     }
 }

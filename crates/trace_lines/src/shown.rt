@@ -1,93 +1,82 @@
 // What the reader prints of a block.
-ghost use Rattle.std.specs.Prelude.{◌≡◌, true, not, ◌+◌, ◌*◌, ◌≤◌, length, eqb};
+ghost use Rattle.std.specs.Prelude.{◌≡◌, true, ◌+◌, ◌*◌, ◌≤◌, length};
 ghost use Rattle.printing.specs.Page.{WroteWithin, Filled};
 ghost use Rattle.trace.specs.Records.{records_in};
 ghost use Rattle.trace.specs.Blocks.{records_at, records_or, fault_of};
+ghost use Rattle.trace.specs.Faults.{code_of};
 ghost use Rattle.trace.specs.Seen.{is_sound};
 ghost use Rattle.trace_lines.specs.Shown.{four_line, record_line, record_lines, block_text, bad_line};
 
-use printing::lines::octets_line;
-use printing::numbers::{put_decimal, put_words};
+use printing::page::Page;
+use trace::faults::Fault;
 use trace::places::{fault_at, record_part};
-use trace::reading::{Found, read_traced};
-
-// How much of the page is written, and whether the block is refused.
-#[derive(Clone, Copy)]
-pub struct Shown {
-    pub written: usize,
-    pub is_refused: bool,
-}
+use trace::reading::read_traced;
 
 // A word, a number, a word, a number.
-pub(crate) fn four_line(
-    page: &mut [u8],
-    at: usize,
+pub(crate) fn four_line<const N: usize>(
+    page: &mut Page<N>,
     first: &[u8],
     n: u64,
     second: &[u8],
     k: u64,
-) -> usize
-    requires { (length first.now ≤ 12) × ((length second.now ≤ 12) × (at + 80 ≤ length page.old)) }
-    ensures { WroteWithin 80 page.old at (four_line first.now n second.now k) page.new result }
+)
+    requires { (length first.now ≤ 12) × ((length second.now ≤ 12) × (length page.old + 80 ≤ N)) }
+    ensures { WroteWithin 80 page.old (four_line first.now n second.now k) page.new }
 {
-    let a = put_words(page, at, first);
-    let b = put_decimal(page, a, n);
-    let c = put_words(page, b, second);
-    let d = put_decimal(page, c, k);
-    put_words(page, d, b"\n")
+    page.words(first);
+    page.decimal(n);
+    page.words(second);
+    page.decimal(k);
+    page.words(b"\n");
 }
 
-fn record_line(page: &mut [u8], at: usize, direction: u8, message: &[u8]) -> usize
-    requires { at + 4 * length message.now + 64 ≤ length page.old }
-    ensures { WroteWithin (4 * length message.now + 64) page.old at
-        (record_line (record { direction = direction; message = message.now })) page.new result }
+fn record_line<const N: usize>(page: &mut Page<N>, direction: u8, message: &[u8])
+    requires { length page.old + 4 * length message.now + 64 ≤ N }
+    ensures { WroteWithin (4 * length message.now + 64) page.old
+        (record_line (record { direction = direction; message = message.now })) page.new }
 {
     if direction == 0 {
-        return octets_line(page, at, true, b"received", message);
+        page.octets_line(b"received", message);
+    } else {
+        page.octets_line(b"sent", message);
     }
-    octets_line(page, at, true, b"sent", message)
 }
 
 // The records of a row of octets, a line or more each.
-fn record_lines(page: &mut [u8], s: &[u8]) -> usize
-    requires { (is_sound (records_in s.now) ≡ true) × (26 * length s.now ≤ length page.old) }
-    ensures { Filled (26 * length s.now) page.old (record_lines (records_or (records_in s.now))) page.new result }
+fn record_lines<const N: usize>(page: &mut Page<N>, s: &[u8])
+    requires { (is_sound (records_in s.now) ≡ true) × (length page.old + 26 * length s.now ≤ N) }
+    ensures { WroteWithin (26 * length s.now) page.old (record_lines (records_or (records_in s.now))) page.new }
 {
-    let mut at = 0;
-    let mut i = 0;
-    while i < s.len() {
-        let Found::Whole { direction, end } = read_traced(&s[i..]) else {
-            return at;
+    let mut rest = s;
+    while !rest.is_empty() {
+        let Some(found) = read_traced(rest) else {
+            return;
         };
-        at = record_line(page, at, direction, &s[i + 2..i + end]);
-        i += end;
+        record_line(page, found.direction, &rest[2..found.end]);
+        rest = &rest[found.end..];
     }
-    at
 }
 
-// Its records, or the place and the number of its first fault.
-pub fn block_lines(page: &mut [u8; 16384], block: &[u8], place: u64) -> Shown
-    ensures page { Filled 16384 page.old (block_text place block.now) page.new result.written }
-    ensures refused { result.is_refused ≡ not (eqb (fault_of (records_at place block.now)) 0) }
+// Its records, or the place and the number of its first fault; whether it has one.
+pub fn block_lines(page: &mut Page<16384>, block: &[u8], place: u64) -> Result<(), Fault>
+    ensures page { Filled 16384 (block_text place block.now) page.new }
+    ensures refused { code_of result ≡ fault_of (records_at place block.now) }
 {
-    let fault = fault_at(block, place);
-    if fault != 0 {
-        let written = four_line(page, 0, b"block ", place, b" refused ", fault as u64);
-        return Shown {
-            written: written,
-            is_refused: true,
-        };
+    page.clear();
+    if let Err(fault) = fault_at(block, place) {
+        let number = fault.number() as u64;
+        four_line(page, b"block ", place, b" refused ", number);
+        return Err(fault);
     }
-    let written = record_lines(page, record_part(block));
-    Shown {
-        written: written,
-        is_refused: false,
-    }
+    record_lines(page, record_part(block));
+    Ok(())
 }
 
 // The line on which a bad record begins.
-pub fn refused_at(page: &mut [u8; 80], line: u64) -> usize
-    ensures { Filled 80 page.old (bad_line line) page.new result }
+pub fn refused_at(page: &mut Page<80>, line: u64)
+    ensures { Filled 80 (bad_line line) page.new }
 {
-    four_line(page, 0, b"line ", line, b" refused ", 35)
+    page.clear();
+    let number = Fault::BadRecords.number() as u64;
+    four_line(page, b"line ", line, b" refused ", number);
 }

@@ -1,7 +1,7 @@
 // Lines that tell records: `received HEX` or `sent HEX`, and lines that go on with the record before.
 ghost use Rattle.std.specs.Prelude.{◌≡◌, ◌≤◌, length, take};
 ghost use Rattle.trace_lines.specs.Told.{kind_if, ends, grown, or_refuses, followed};
-ghost use Rattle.trace_lines.specs.Desk.{Joins, Ready, Follows, Refuses, pen_seen};
+ghost use Rattle.trace_lines.specs.Desk.{Joins, Ready, Follows, begun_seen, pen_seen};
 
 use words::Ending;
 use words::hex::read_hex;
@@ -16,14 +16,12 @@ pub enum Kind {
     Other,
 }
 
-// The record that is begun: so many octets of it stand in a buffer, and it begins on this line. Or the line that is refused.
+// A record that is begun: so many octets of it stand in a buffer, and it begins on this line.
 #[derive(Clone, Copy)]
 pub struct Pen {
-    pub is_begun: bool,
     pub direction: u8,
     pub count: usize,
     pub line: u64,
-    pub refused: u64,
 }
 
 pub fn kind_of(line: &[u8], long: bool) -> Kind
@@ -34,7 +32,7 @@ pub fn kind_of(line: &[u8], long: bool) -> Kind
     }
     let first = word_at(line, 0);
     let word = octets::part(line, first.start, first.end);
-    if word.len() == 0 {
+    if word.is_empty() {
         return Kind::Passed;
     }
     if word[0] == b'#' {
@@ -62,95 +60,64 @@ pub fn kind_of(line: &[u8], long: bool) -> Kind
 pub fn is_ending(kind: Kind) -> bool
     ensures { result ≡ ends kind }
 {
-    match kind {
-        Kind::Passed => false,
-        Kind::Onward => false,
-        Kind::First {
-            direction: _,
-            at: _,
-        } => true,
-        Kind::Other => true,
-    }
+    matches!(kind, Kind::First { .. } | Kind::Other)
 }
 
-// Octets in hex behind those that stand in the buffer: how many there are then; 256 if they are bad.
-fn join(text: &[u8], message: &mut [u8], count: usize) -> usize
+// Octets in hex behind those that stand in the buffer: how many there are then; none if they are bad.
+fn join(text: &[u8], message: &mut [u8], count: usize) -> Option<usize>
     requires { (count ≤ 255) × (length message.old ≡ 255) }
     ensures { Joins text.now count message.old message.new result }
 {
     let mut space = [0u8; 255];
     let row = read_hex(text, &mut space);
-    let ends = row.ends;
-    match ends {
-        Ending::Wrong => {
-            return 256;
-        }
-        Ending::Long => {
-            return 256;
-        }
-        Ending::Whole => {
-            if 255 < count + row.count {
-                return 256;
-            }
-            octets::put(message, count, &space[..row.count]);
-            count + row.count
-        }
+    let Ending::Whole = row.ends else {
+        return None;
+    };
+    if 255 < count + row.count {
+        return None;
     }
-}
-
-pub(crate) fn refuse(line: u64) -> Pen
-    requires { 1 ≤ line }
-    ensures { Refuses line result }
-{
-    Pen {
-        is_begun: false,
-        direction: 0,
-        count: 0,
-        line: line,
-        refused: line,
-    }
+    octets::put(message, count, &space[..row.count]);
+    Some(count + row.count)
 }
 
 // A record with octets more, or the line on which it begins.
-fn grow(text: &[u8], message: &mut [u8], direction: u8, count: usize, line: u64) -> Pen
-    requires { (count ≤ 255) × ((1 ≤ line) × (length message.old ≡ 255)) }
-    ensures { Follows (or_refuses line (grown (record { direction = direction; message = take count message.old; line = line }) text.now)) message.new result }
+fn grow(text: &[u8], message: &mut [u8], pen: Pen) -> Result<Option<Pen>, u64>
+    requires { (pen.count ≤ 255) × (length message.old ≡ 255) }
+    ensures { Follows (or_refuses pen.line (grown (begun_seen pen message.old) text.now)) message.new result }
 {
-    let joined = join(text, message, count);
-    if 255 < joined {
-        return refuse(line);
-    }
-    Pen {
-        is_begun: true,
-        direction: direction,
-        count: joined,
-        line: line,
-        refused: 0,
-    }
+    let Some(count) = join(text, message, pen.count) else {
+        return Err(pen.line);
+    };
+    Ok(Some(Pen { count, ..pen }))
 }
 
-// The record that is begun behind line n.
-pub fn follow(kind: Kind, line: &[u8], n: u64, message: &mut [u8], pen: Pen) -> Pen
-    requires { (1 ≤ n) × (Ready pen × (length message.old ≡ 255)) }
+// The record that is begun behind line n, or the line that is refused. The buffer is a slice: its callers may hold no array.
+pub fn follow(
+    kind: Kind,
+    line: &[u8],
+    n: u64,
+    message: &mut [u8],
+    pen: Option<Pen>,
+) -> Result<Option<Pen>, u64>
+    requires { Ready pen × (length message.old ≡ 255) }
     ensures { Follows (followed kind line.now n (pen_seen pen message.old)) message.new result }
 {
     match kind {
-        Kind::Passed => Pen {
-            is_begun: pen.is_begun,
-            direction: pen.direction,
-            count: pen.count,
-            line: pen.line,
-            refused: 0,
-        },
+        Kind::Passed => Ok(pen),
         Kind::Onward => {
-            if !pen.is_begun {
-                return refuse(n);
-            }
-            grow(line, message, pen.direction, pen.count, pen.line)
+            let Some(pen) = pen else {
+                return Err(n);
+            };
+            grow(line, message, pen)
         }
         Kind::First { direction, at } => {
-            grow(octets::part(line, at, line.len()), message, direction, 0, n)
+            let begun = Pen {
+                direction,
+                count: 0,
+                line: n,
+            };
+            grow(octets::part(line, at, line.len()), message, begun)
         }
-        Kind::Other => refuse(n),
+        Kind::Other => Err(n),
     }
 }

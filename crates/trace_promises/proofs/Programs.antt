@@ -8,6 +8,7 @@ use native.Mathlib.Omega.{arith}
 use lib.ListN.{length}
 use lib.Dec.{eqb}
 use borrow.Author.Tests.{eqb-true, eqb-false}
+use Rattle.std.specs.Prelude.{None}
 use Rattle.octets.specs.Reader.{Answer, fault, sound}
 use Rattle.trace.specs.Records.{Record}
 use Rattle.trace.specs.Blocks.{records_at, fault_of}
@@ -114,5 +115,5 @@ salvage-gives file =
 pub writer-writes : WriterWrites
 unfolding told blocks_of
 writer-writes full lines =
-    ap (λ (b : List ℕ). writes_from none (book_of false 0 false 0) b full 1 lines) (sym empty-zeros)
-    ∙ writes-from none false 0 [] false 0 full 1 lines (omega arith) tt refl
+    ap (λ (b : List ℕ). writes_from none (book_of false 0 false None) b full 1 lines) (sym empty-zeros)
+    ∙ writes-from none false 0 [] false None full 1 lines refl

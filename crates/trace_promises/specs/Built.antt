@@ -1,12 +1,14 @@
 -- "What the two build is what the writer builds": the loop that include/smrcholet.h tells, over what the two calls promise, and the
 -- writer's own steps, each give the blocks of the records.
-use Rattle.std.specs.Prelude.{ℕ, suc, ◌%◌, ◌≡◌, List, [], ◌∷◌, Bool, true, false, cond, length, eqb}
-use Rattle.octets.specs.Unless.{unless}
+use Rattle.std.specs.Prelude.{ℕ, suc, ◌%◌, ◌≡◌, List, [], ◌∷◌, Bool, true, false, cond, length, Result, Ok, Err}
 use Rattle.trace.specs.Records.{Record, Good, good_record}
 use Rattle.trace.specs.Blocks.{zeros}
 use Rattle.trace.specs.Writing.{blocks_of}
 use Rattle.trace.specs.Calls.{begin_leaves, add_answer, add_leaves}
 use Rattle.trace.specs.Steps.{wrote, holds, hands_over}
+use Rattle.trace.specs.Faults.{number_of}
+use Rattle.trace.specs.declared.faults.Fault.{Fault}
+use Rattle.trace.specs.declared.writing.Wrote.{Wrote}
 
 -- "Keep one block, add each message as it comes or goes, and write the block where it is full": it is begun over whatever it held
 abbrev pub build_from : ℕ → List ℕ → List Record → List (List ℕ)
@@ -36,12 +38,16 @@ ahead full block behind = record { blocks = cond full (block ∷ behind.blocks) 
 abbrev pub ended : Bool → List ℕ → ℕ → Writing
 ended opened held code = record { blocks = cond opened (held ∷ []) []; refused = code }
 
+abbrev pub written_or : Result Wrote Fault → (ℕ → Writing) → (Wrote → Writing) → Writing
+written_or (Err f) stop behind = stop (number_of f)
+written_or (Ok w) stop behind = behind w
+
 abbrev pub write_from : Bool → List ℕ → List ℕ → ℕ → List Record → Writing
 write_from opened held full number [] = ended opened held 0
 write_from opened held full number (r ∷ others) =
-    unless (eqb (wrote held number r).code 0) (ended opened held (wrote held number r).code)
-    (ahead (wrote held number r).is_full (hands_over full held r)
-    (write_from true (holds held number r) (hands_over full held r) (wrote held number r).number others))
+    written_or (wrote held number r) (λ code. ended opened held code)
+    (λ w. ahead w.is_full (hands_over full held r)
+    (write_from true (holds held number r) (hands_over full held r) w.number others))
 
 -- the records before the first bad one
 abbrev pub until_bad : List Record → List Record

@@ -1,5 +1,5 @@
 -- What the programs' loops make of the functions that they call: block by block, or line by line, as src/main.rt has them.
-use Rattle.std.specs.Prelude.{ℕ, suc, ◌≡◌, List, [], ◌∷◌, ◌++◌, Bool, false, cond, eqb}
+use Rattle.std.specs.Prelude.{ℕ, suc, ◌≡◌, List, [], ◌∷◌, ◌++◌, Bool, false, cond, eqb, Option as Maybe, None, Some}
 use Rattle.std.proofs.Math.Option.{Option, none, some}
 use Rattle.trace.specs.Blocks.{zeros, records_at, fault_of}
 use Rattle.trace.specs.Files.{blocks_in, joined}
@@ -45,8 +45,17 @@ pub record Writes : Type 0 where
 abbrev pub behind : Bool → List ℕ → Writes → Writes
 behind is block others = record { blocks = cond is (block ∷ others.blocks) others.blocks; refused = others.refused }
 
+-- 0 stands for none
+abbrev pub line_of : Maybe ℕ → ℕ
+line_of None = 0
+line_of (Some n) = n
+
 abbrev pub stops : Book → List ℕ → Writes
-stops book held = record { blocks = cond book.is_open (held ∷ []) []; refused = book.refused }
+stops book held = record { blocks = cond book.is_open (held ∷ []) []; refused = line_of book.refused }
+
+abbrev pub unless_refused : Maybe ℕ → Writes → Writes → Writes
+unless_refused None others stopped = others
+unless_refused (Some n) others stopped = stopped
 
 abbrev pub begun_by : Next → Option Begun
 begun_by (goes begun) = begun
@@ -57,7 +66,7 @@ writes_from begun book held full n [] =
     behind (book_after begun held book).is_full (full_after begun held full) (stops (book_after begun held book) (held_after begun held book.number))
 writes_from begun book held full n (line ∷ others) =
     behind (book_by (line_kind line) line n begun held book).is_full (full_after (settled (line_kind line) begun) held full)
-    (cond (eqb (book_by (line_kind line) line n begun held book).refused 0)
+    (unless_refused (book_by (line_kind line) line n begun held book).refused
     (writes_from (begun_by (next_by (line_kind line) line n begun held book)) (book_by (line_kind line) line n begun held book)
     (held_after (settled (line_kind line) begun) held book.number) (full_after (settled (line_kind line) begun) held full) (suc n) others)
     (stops (book_by (line_kind line) line n begun held book) (held_after (settled (line_kind line) begun) held book.number)))
@@ -69,5 +78,5 @@ line_or (some n) = n
 -- from 512 zeros, which are the empty block 0
 abbrev pub WriterWrites : Type 0
 WriterWrites = (full : List ℕ) (lines : List (List ℕ))
-    → writes_from none (record { is_open = false; number = 0; is_full = false; refused = 0 }) (zeros 512) full 1 lines
+    → writes_from none (record { is_open = false; number = 0; is_full = false; refused = None }) (zeros 512) full 1 lines
     ≡ record { blocks = blocks_of (told lines).records; refused = line_or (told lines).bad }

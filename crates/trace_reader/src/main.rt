@@ -1,6 +1,7 @@
 // A trace file on standard input, its records as lines on standard output.
 #![tactic(auto)]
 
+use printing::page::Page;
 use std::io::Print;
 use streams::{give, input_failed, read_block};
 use trace_lines::shown::block_lines;
@@ -9,15 +10,13 @@ use trace_lines::shown::block_lines;
 fn show(
     output: &impl Print,
     errors: &impl Print,
-    block: &[u8; 512],
-    have: usize,
-    page: &mut [u8; 16384],
+    block: &[u8],
+    page: &mut Page<16384>,
     place: u64,
 ) -> bool {
-    let shown = block_lines(page, octets::part(block, 0, have), place);
-    let written = shown.written;
-    let given = give(output, errors, octets::part(page, 0, written));
-    given & !shown.is_refused
+    let judged = block_lines(page, block, place);
+    let given = give(output, errors, page.text());
+    given.is_ok() & judged.is_ok()
 }
 
 // A proved loop has to end, so the places are counted to a number that no input reaches.
@@ -26,20 +25,17 @@ fn main(rt: HostRuntime) {
     let output = rt.stdout();
     let errors = rt.stderr();
     let mut block = [0u8; 512];
-    let mut page = [0u8; 16384];
-    let mut place = 0u64;
-    while place < u64::MAX {
-        let got = read_block(&mut input, &mut block);
-        if got.is_failed {
+    let mut page = Page::new();
+    for place in 0..u64::MAX {
+        let Ok(have) = read_block(&mut input, &mut block) else {
             input_failed(&errors);
             break;
-        }
-        if got.have == 0 {
+        };
+        if have == 0 {
             break;
         }
-        if !show(&output, &errors, &block, got.have, &mut page, place) {
+        if !show(&output, &errors, &block[..have], &mut page, place) {
             break;
         }
-        place += 1;
     }
 }

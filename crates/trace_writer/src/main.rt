@@ -1,72 +1,73 @@
 // Records as lines on standard input, the trace file on standard output. A bad record ends it.
 #![tactic(auto)]
 
-ghost use Rattle.std.specs.Prelude.{◌≤◌, length, ◌≡◌};
+ghost use Rattle.std.specs.Prelude.{◌≤◌, IfOk};
 ghost use Rattle.trace_lines.specs.Desk.{Ready};
 
+use printing::page::Page;
+use std::io;
 use std::io::{Print, Read};
 use streams::{give, input_failed};
 use trace_lines::book::{Book, Turn, finish, take_line};
 use trace_lines::shown::refused_at;
-use trace_lines::told::Pen;
 use words::lines::{counted, gather};
 
-// So much of a line is there, so many lines were before it; whether the output failed, and the writer behind them.
+// The line that is read, the octets of the record that is begun, the block that is held, and one that is handed over.
+#[derive(Drop)]
+struct Room {
+    line: [u8; 16384],
+    message: [u8; 255],
+    held: [u8; 512],
+    full: [u8; 512],
+}
+
+// So much of a line is there, so many lines were before it; and the writer behind them.
 #[derive(Clone, Copy)]
 struct Desk {
     have: usize,
     number: u64,
-    is_lost: bool,
     turn: Turn,
 }
 
-// Whether more is to be read: no record was bad, and the output stands.
+// Whether more is to be read: no record was bad.
 fn is_going(desk: Desk) -> bool {
-    let turn = desk.turn;
-    let book = turn.book;
-    !desk.is_lost & (book.refused == 0)
+    desk.turn.book.refused.is_none()
 }
 
-// Writes the block that was handed over, if one was; whether that could be done.
-fn hand_over(output: &impl Print, errors: &impl Print, full: &[u8; 512], is_full: bool) -> bool {
-    if is_full {
-        return give(output, errors, full);
+// Writes a block, if there is one.
+fn hand_over(
+    output: &impl Print,
+    errors: &impl Print,
+    block: &[u8; 512],
+    is_there: bool,
+) -> io::Result<()> {
+    if is_there {
+        give(output, errors, block)?;
     }
-    true
+    Ok(())
 }
 
 // Takes the line that is there.
-fn take(
-    output: &impl Print,
-    errors: &impl Print,
-    line: &[u8; 16384],
-    message: &mut [u8],
-    held: &mut [u8; 512],
-    full: &mut [u8; 512],
-    desk: Desk,
-) -> Desk
-    requires { Ready desk.turn.pen × (length message.old ≡ 255) }
-    ensures { (result.have ≤ 16385) × Ready result.turn.pen }
+fn take(output: &impl Print, errors: &impl Print, room: &mut Room, desk: Desk) -> io::Result<Desk>
+    requires { Ready desk.turn.pen }
+    ensures { IfOk result (λ next. (next.have ≤ 16385) × Ready next.turn.pen) }
 {
     let number = counted(desk.number);
-    let have = desk.have;
     let turn = take_line(
-        octets::part(line, 0, have),
-        16384 < have,
+        octets::part(&room.line, 0, desk.have),
+        16384 < desk.have,
         number,
-        message,
-        held,
-        full,
+        &mut room.message,
+        &mut room.held,
+        &mut room.full,
         desk.turn,
     );
-    let book = turn.book;
-    let given = hand_over(output, errors, full, book.is_full);
-    Desk {
+    hand_over(output, errors, &room.full, turn.book.is_full)?;
+    Ok(Desk {
         have: 0,
-        number: number,
-        is_lost: !given,
-        turn: turn,
-    }
+        number,
+        turn,
+    })
 }
 
 // Takes each line that ends in a piece of the input; what is left of it is the start of the next line.
@@ -74,99 +75,72 @@ fn serve(
     output: &impl Print,
     errors: &impl Print,
     input: &[u8],
-    line: &mut [u8; 16384],
-    message: &mut [u8],
-    held: &mut [u8; 512],
-    full: &mut [u8; 512],
+    room: &mut Room,
     desk: Desk,
-) -> Desk
-    requires { (desk.have ≤ 16385) × (Ready desk.turn.pen × (length message.old ≡ 255)) }
-    ensures { (result.have ≤ 16385) × Ready result.turn.pen }
+) -> io::Result<Desk>
+    requires { (desk.have ≤ 16385) × Ready desk.turn.pen }
+    ensures { IfOk result (λ next. (next.have ≤ 16385) × Ready next.turn.pen) }
 {
     let mut state = desk;
-    let mut at = 0;
-    while at < input.len() {
-        let more = gather(input, at, line, state.have);
-        at = more.next;
+    let mut rest = input;
+    while !rest.is_empty() {
+        let more = gather(rest, 0, &mut room.line, state.have);
+        rest = &rest[more.next..];
         state.have = more.have;
         if more.is_whole {
-            state = take(output, errors, line, message, held, full, state);
+            state = take(output, errors, room, state)?;
             if !is_going(state) {
                 break;
             }
         }
     }
-    state
+    Ok(state)
 }
 
 // The last line may lack its line feed.
 fn last_line(
     output: &impl Print,
     errors: &impl Print,
-    line: &[u8; 16384],
-    message: &mut [u8],
-    held: &mut [u8; 512],
-    full: &mut [u8; 512],
+    room: &mut Room,
     desk: Desk,
-) -> Desk
-    requires { Ready desk.turn.pen × (length message.old ≡ 255) }
-    ensures { Ready result.turn.pen }
+) -> io::Result<Desk>
+    requires { Ready desk.turn.pen }
+    ensures { IfOk result (λ next. Ready next.turn.pen) }
 {
     if is_going(desk) & (desk.have > 0) {
-        return take(output, errors, line, message, held, full, desk);
+        return take(output, errors, room, desk);
     }
-    desk
+    Ok(desk)
 }
 
 // The record that is begun where the input ends.
-fn close(
-    output: &impl Print,
-    errors: &impl Print,
-    message: &[u8],
-    held: &mut [u8; 512],
-    full: &mut [u8; 512],
-    desk: Desk,
-) -> Desk
-    requires { desk.turn.pen.count ≤ length message.now }
+fn close(output: &impl Print, errors: &impl Print, room: &mut Room, desk: Desk) -> io::Result<Book>
+    requires { Ready desk.turn.pen }
 {
-    if !is_going(desk) {
-        return desk;
-    }
     let turn = desk.turn;
-    let pen = turn.pen;
-    let book = finish(pen, message, held, full, turn.book);
-    let given = hand_over(output, errors, full, book.is_full);
-    Desk {
-        have: 0,
-        number: desk.number,
-        is_lost: !given,
-        turn: Turn {
-            pen: pen,
-            book: book,
-        },
+    if !is_going(desk) {
+        return Ok(turn.book);
     }
+    let book = finish(
+        turn.pen,
+        &room.message,
+        &mut room.held,
+        &mut room.full,
+        turn.book,
+    );
+    hand_over(output, errors, &room.full, book.is_full)?;
+    Ok(book)
 }
 
 // The block that is held, and the line on which a bad record begins.
-fn end(
-    output: &impl Print,
-    errors: &impl Print,
-    held: &[u8; 512],
-    page: &mut [u8; 80],
-    desk: Desk,
-) {
-    let turn = desk.turn;
-    let book = turn.book;
-    if desk.is_lost {
-        return;
+fn end(output: &impl Print, errors: &impl Print, held: &[u8; 512], book: Book) -> io::Result<()> {
+    hand_over(output, errors, held, book.is_open)?;
+    if let Some(line) = book.refused {
+        let mut page = Page::new();
+        refused_at(&mut page, line);
+        give(errors, errors, page.text())?;
     }
-    if !hand_over(output, errors, held, book.is_open) {
-        return;
-    }
-    if book.refused != 0 {
-        let n = refused_at(page, book.refused);
-        give(errors, errors, octets::part(page, 0, n));
-    }
+    Ok(())
 }
 
 fn begun() -> Desk
@@ -175,102 +149,69 @@ fn begun() -> Desk
     Desk {
         have: 0,
         number: 0,
-        is_lost: false,
         turn: Turn {
-            pen: Pen {
-                is_begun: false,
-                direction: 0,
-                count: 0,
-                line: 1,
-                refused: 0,
-            },
+            pen: None,
             book: Book {
                 is_open: false,
                 number: 0,
                 is_full: false,
-                refused: 0,
+                refused: None,
             },
         },
     }
 }
 
-// Reads all of the input. A proved loop has to end, and nothing says that the input does: so the turns are counted down, from
-// a number that no run uses up.
+// Reads all of the input. A proved loop has to end, and nothing says that the input does: so the turns are counted, to a
+// number that no run reaches.
 fn read_all(
     input: &mut impl Read,
     output: &impl Print,
     errors: &impl Print,
-    line: &mut [u8; 16384],
-    message: &mut [u8],
-    held: &mut [u8; 512],
-    full: &mut [u8; 512],
-) -> Desk
-    requires { length message.old ≡ 255 }
-    ensures { Ready result.turn.pen }
+    room: &mut Room,
+) -> io::Result<Desk>
+    ensures { IfOk result (λ desk. Ready desk.turn.pen) }
 {
     let mut piece = [0u8; 4096];
     let mut state = begun();
-    let mut turns = u64::MAX;
-    while turns > 0 {
-        turns -= 1;
-        let Ok(n) = input.read(&mut piece) else {
+    for _ in 0..u64::MAX {
+        let read = input.read(&mut piece);
+        if read.is_err() {
             input_failed(errors);
-            state.is_lost = true;
-            return state;
-        };
-        if n == 0 {
-            return state;
         }
-        state = serve(
-            output,
-            errors,
-            &piece[..n],
-            line,
-            message,
-            held,
-            full,
-            state,
-        );
+        let n = read?;
+        if n == 0 {
+            break;
+        }
+        state = serve(output, errors, &piece[..n], room, state)?;
         if !is_going(state) {
-            return state;
+            break;
         }
     }
-    state
+    Ok(state)
 }
 
 fn run(
     input: &mut impl Read,
     output: &impl Print,
     errors: &impl Print,
-    line: &mut [u8; 16384],
-    message: &mut [u8],
-    held: &mut [u8; 512],
-    full: &mut [u8; 512],
-)
-    requires { length message.old ≡ 255 }
-{
-    let mut page = [0u8; 80];
-    let read = read_all(input, output, errors, line, message, held, full);
-    let last = last_line(output, errors, line, message, held, full, read);
-    let closed = close(output, errors, message, held, full, last);
-    end(output, errors, held, &mut page, closed);
+    room: &mut Room,
+) -> io::Result<()> {
+    let read = read_all(input, output, errors, room)?;
+    let last = last_line(output, errors, room, read)?;
+    let book = close(output, errors, room, last)?;
+    end(output, errors, &room.held, book)
 }
 
+// What fails is said where it fails.
 fn main(rt: HostRuntime) {
     let mut input = rt.stdin();
     let output = rt.stdout();
     let errors = rt.stderr();
-    let mut line = [0u8; 16384];
-    let mut message = [0u8; 255];
-    let mut held = [0u8; 512];
-    let mut full = [0u8; 512];
-    run(
-        &mut input,
-        &output,
-        &errors,
-        &mut line,
-        &mut message,
-        &mut held,
-        &mut full,
-    );
+    let mut room = Room {
+        line: [0; 16384],
+        message: [0; 255],
+        held: [0; 512],
+        full: [0; 512],
+    };
+    let _ = run(&mut input, &output, &errors, &mut room);
 }

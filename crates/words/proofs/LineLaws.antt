@@ -2,37 +2,31 @@
 use Prim.Native.Nat.{ℕ, suc, ◌+◌, ◌-◌, ◌<◌, ◌≤◌}
 use mathlib.Core.Path.{◌≡◌, refl, sym, ap, ◌∙◌}
 use mathlib.Core.List.{List, [], ◌∷◌}
-use mathlib.Core.Bool.{Bool, true, false, cond}
+use mathlib.Core.Bool.{Bool, true, false, cond, not}
+use Rattle.std.specs.List.{prefix_len}
+use Rattle.std.proofs.lemmas.List.Sums.{prefix_len-le-length}
 use native.Mathlib.Numerals.{add-one}
 use native.Mathlib.Omega.{arith}
-use lib.ListN.{length, get_or, drop, drop_of_length-le, length-drop}
-use lib.Seq.{drop-cons, length-take-le}
+use lib.ListN.{length, drop, length-drop}
+use lib.Seq.{length-take-le}
 use lib.Dec.{eqb, ltb}
-use borrow.Author.Tests.{eq-eqb, ne_eqb, lt-ltb, le-ltb, ltb-true}
+use borrow.Author.Tests.{lt-ltb, le-ltb, ltb-true}
 use Rattle.octets.specs.Part.{between}
+use Rattle.octets.proofs.PartLaws.{rest_part_lem}
 use Rattle.octets.specs.Splice.{splice}
 use Rattle.words.specs.Lines.{line_end, piece, held, with_piece, gathered}
 
-pub line-here : (s : List ℕ) (i : ℕ) → i < length s → get_or s i 0 ≡ 10 → i + line_end (drop i s) ≡ i
+-- as the library counts them
+pub line-counted : (s : List ℕ) → prefix_len (λ x. not (eqb x 10)) s ≡ line_end s
 unfolding line_end
-line-here s i h b = rw (drop-cons s i 0 h, eq-eqb (get_or s i 0) 10 b) (omega arith)
-
-pub line_on : (s : List ℕ) (i : ℕ) → i < length s → (get_or s i 0 ≡ 10 → ⊥) → i + 1 + line_end (drop (i + 1) s) ≡ i + line_end (drop i s)
-unfolding line_end
-line_on s i h b = rw (add-one i, drop-cons s i 0 h, ne_eqb (get_or s i 0) 10 b) (omega arith)
-
-pub line-over : (s : List ℕ) (i : ℕ) → length s ≤ i → i + line_end (drop i s) ≡ i
-unfolding line_end
-line-over s i h = rw (drop_of_length-le s h) (omega arith)
-
-ends-first : (b : Bool) (n k : ℕ) → n ≤ k → cond b 0 (suc n) ≤ suc k
-ends-first true n k h = omega arith
-ends-first false n k h = omega arith
+line-counted [] = refl
+line-counted (c ∷ s) = elim (eqb c 10) as (λ b. cond (not b) (1 + prefix_len (λ x. not (eqb x 10)) s) 0 ≡ cond b 0 (suc (line_end s))) [
+  | true ↦ refl
+  | false ↦ let e = line-counted s in omega arith
+]
 
 pub ends-within : (s : List ℕ) → line_end s ≤ length s
-unfolding line_end
-ends-within [] = omega arith
-ends-within (c ∷ s) = ends-first (eqb c 10) (line_end s) (length s) (ends-within s)
+ends-within s = rw (← line-counted s) (prefix_len-le-length (λ x. not (eqb x 10)) s)
 
 -- the piece as the code cuts it, and its length
 pub cut-is : (s : List ℕ) (from end : ℕ) → end ≡ from + line_end (drop from s) → between from end s ≡ piece s from
@@ -60,6 +54,13 @@ next-cut b end next e q = rw e q
 next-by : (b : Bool) (end n : ℕ) → ltb end n ≡ b → end ≤ n → cond b (suc end) end ≤ n
 next-by true end n e h = let l = ltb-true end n e in omega arith
 next-by false end n e h = h
+
+-- where the line ends in the input
+pub end-is : (s : List ℕ) (from n : ℕ) → n ≡ line_end (between from (length s) s) → from + n ≡ from + line_end (drop from s)
+end-is s from n e = rw (e, rest_part_lem)
+
+pub end-within : (s : List ℕ) (from end : ℕ) → from ≤ length s → end ≡ from + line_end (drop from s) → end ≤ length s
+end-within s from end h e = omega (arith, ends-within (drop from s), length-drop from s)
 
 module _ (s line more : List ℕ) (from have end next : ℕ) (h : from ≤ length s) (e : end ≡ from + line_end (drop from s)) (m : more ≡ between from end s) (z : next ≡ cond (ltb end (length s)) (suc end) end) where
   more-is : more ≡ piece s from

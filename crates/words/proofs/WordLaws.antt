@@ -1,62 +1,53 @@
 -- Words at a place of a line: the first octet of what is left decides.
-use Prim.Native.Nat.{ℕ, suc, ◌+◌, ◌<◌, ◌≤◌}
-use mathlib.Core.Path.{◌≡◌, refl, ap}
-use mathlib.Core.List.{List, [], ◌∷◌}
-use mathlib.Core.Bool.{true, false, and-false}
-use native.Mathlib.Numerals.{add-one}
-use native.Mathlib.Omega.{arith}
-use lib.ListN.{length, get_or, drop, drop_of_length-le}
-use lib.Seq.{drop-cons}
-use lib.Dec.{eqb}
-use borrow.Author.Tests.{eq-eqb, ne_eqb}
-use Rattle.words.specs.Words.{blank, blanks, letters, word_from, word_at, same}
+use Rattle.std.proofs.Common.{ℕ, suc, ◌+◌, ◌-◌, ◌≤◌, ◌≡◌, refl, List, [], ◌∷◌, true, false, cond, length, not, arith, one-add}
+use Rattle.std.specs.List.{prefix_len}
+use Rattle.std.proofs.lemmas.List.Sums.{prefix_len-le-length}
+use Rattle.std.specs.Cmp.Lexicographic.{pointwise}
+use Rattle.std.proofs.Math.Dec.{eqb}
+use Rattle.octets.specs.Part.{between}
+use Rattle.octets.proofs.PartLaws.{length-between, rest_part_lem}
+use Rattle.words.specs.Words.{blank, blanks, letters, word_at, word_from, same}
 
-pub blanks-here : (s : List ℕ) (i : ℕ) → i < length s → blank (get_or s i 0) ≡ false → i + blanks (drop i s) ≡ i
+-- as the library counts them
+pub blanks-counted : (s : List ℕ) → prefix_len blank s ≡ blanks s
 unfolding blanks
-blanks-here s i h b = rw (drop-cons s i 0 h, b) (omega arith)
+blanks-counted [] = refl
+blanks-counted (c ∷ s) = rw (blanks-counted s, one-add)
 
-pub blanks-on : (s : List ℕ) (i : ℕ) → i < length s → blank (get_or s i 0) ≡ true → i + 1 + blanks (drop (i + 1) s) ≡ i + blanks (drop i s)
-unfolding blanks
-blanks-on s i h b = rw (add-one i, drop-cons s i 0 h, b) (omega arith)
-
-pub blanks-end : (s : List ℕ) (i : ℕ) → length s ≤ i → i + blanks (drop i s) ≡ i
-unfolding blanks
-blanks-end s i h = rw (drop_of_length-le s h) (omega arith)
-
-pub letters-here : (s : List ℕ) (i : ℕ) → i < length s → blank (get_or s i 0) ≡ true → i + letters (drop i s) ≡ i
+pub letters-counted : (s : List ℕ) → prefix_len (λ c. not (blank c)) s ≡ letters s
 unfolding letters
-letters-here s i h b = rw (drop-cons s i 0 h, b) (omega arith)
+letters-counted [] = refl
+letters-counted (c ∷ s) = elim (blank c) as (λ b. cond (not b) (1 + prefix_len (λ c. not (blank c)) s) 0 ≡ cond b 0 (suc (letters s))) [
+  | true ↦ refl
+  | false ↦ let e = letters-counted s in omega arith
+]
 
-pub letters-on : (s : List ℕ) (i : ℕ) → i < length s → blank (get_or s i 0) ≡ false → i + 1 + letters (drop (i + 1) s) ≡ i + letters (drop i s)
-unfolding letters
-letters-on s i h b = rw (add-one i, drop-cons s i 0 h, b) (omega arith)
+blanks-within : (s : List ℕ) → blanks s ≤ length s
+blanks-within s = rw (← blanks-counted s) (prefix_len-le-length blank s)
 
-pub letters-end : (s : List ℕ) (i : ℕ) → length s ≤ i → i + letters (drop i s) ≡ i
-unfolding letters
-letters-end s i h = rw (drop_of_length-le s h) (omega arith)
+letters-within : (s : List ℕ) → letters s ≤ length s
+letters-within s = rw (← letters-counted s) (prefix_len-le-length (λ c. not (blank c)) s)
+
+-- behind a place, in what is left of a line there
+module _ (s rest : List ℕ) (at : ℕ) (q : rest ≡ between at (length s) s) where
+  left : length rest ≡ length s - at
+  left = rw q (length-between at (length s) s (omega arith))
+
+  pub behind-blanks : at + blanks rest ≤ at + (length s - at)
+  behind-blanks = omega (arith, blanks-within rest, left)
+
+  pub behind-letters : at + letters rest ≤ at + (length s - at)
+  behind-letters = omega (arith, letters-within rest, left)
 
 -- a word from its start, behind the blanks, to its end, behind the letters
-pub word-is : (s : List ℕ) (at start end : ℕ) → start ≡ at + blanks (drop at s) → end ≡ start + letters (drop start s)
-    → word_at s at ≡ record { start = start; end = end }
+pub word-is : (s a b : List ℕ) (at n m : ℕ) → a ≡ between at (length s) s → n ≡ blanks a → b ≡ between (at + n) (length s) s → m ≡ letters b
+    → record { start = at + n; end = at + n + m } ≡ word_at s at
 unfolding word_at word_from
-word-is s at start end p q = rw (q, p)
+word-is s a b at n m p e q f = rw (f, q, rest_part_lem (at + n) s, e, p, rest_part_lem at s)
 
--- lists of two lengths are not the same
-pub other_length : (s t : List ℕ) → (length s ≡ length t → ⊥) → same s t ≡ false
+pub same_eq : (s t : List ℕ) → pointwise eqb s t ≡ same s t
 unfolding same
-other_length [] [] h = absurd (h refl)
-other_length [] (b ∷ t) h = refl
-other_length (a ∷ s) [] h = refl
-other_length (a ∷ s) (b ∷ t) h = rw (other_length s t (λ e. h (ap suc e))) (and-false (eqb a b))
-
-pub same-on : (s t : List ℕ) (i : ℕ) → i < length s → i < length t → get_or s i 0 ≡ get_or t i 0 → same (drop (i + 1) s) (drop (i + 1) t) ≡ same (drop i s) (drop i t)
-unfolding same
-same-on s t i h k e = rw (add-one i, drop-cons s i 0 h, drop-cons t i 0 k, eq-eqb (get_or s i 0) (get_or t i 0) e)
-
-pub same_not : (s t : List ℕ) (i : ℕ) → i < length s → i < length t → (get_or s i 0 ≡ get_or t i 0 → ⊥) → same (drop i s) (drop i t) ≡ false
-unfolding same
-same_not s t i h k e = rw (drop-cons s i 0 h, drop-cons t i 0 k, ne_eqb (get_or s i 0) (get_or t i 0) e)
-
-pub same_end : (s t : List ℕ) (i : ℕ) → length s ≤ i → length t ≤ i → same (drop i s) (drop i t) ≡ true
-unfolding same
-same_end s t i h k = rw (drop_of_length-le s h, drop_of_length-le t k)
+same_eq [] [] = refl
+same_eq [] (b ∷ t) = refl
+same_eq (a ∷ s) [] = refl
+same_eq (a ∷ s) (b ∷ t) = rw (same_eq s t)

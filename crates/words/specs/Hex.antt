@@ -1,5 +1,5 @@
 -- "octets as hex with or without spaces": two digits an octet, blanks only between octets.
-use Rattle.std.specs.Prelude.{ℕ, ◌+◌, ◌*◌, ◌-◌, ◌≤◌, ◌≡◌, List, [], ◌∷◌, cond, ◌&&◌, length, eqb, leb}
+use Rattle.std.specs.Prelude.{ℕ, ◌+◌, ◌*◌, ◌-◌, ◌≤◌, ◌≡◌, List, [], ◌∷◌, cond, ◌&&◌, length, eqb, leb, ◌<◌, Option, None, Some}
 use Rattle.octets.specs.Splice.{splice}
 use Rattle.words.specs.Words.{blank}
 use Rattle.words.specs.declared.hex.Row.{Row}
@@ -14,8 +14,16 @@ digit_of c =
     (cond (leb 97 c && leb c 102) (c - 87)
     16))
 
-abbrev pub ReadsDigit : ℕ → ℕ → Type 0
-ReadsDigit c digit = (digit ≡ digit_of c) × (digit ≤ 16)
+abbrev pub digit_seen : Option ℕ → ℕ
+digit_seen None = 16
+digit_seen (Some digit) = digit
+
+abbrev pub DigitWithin : Option ℕ → Type 0
+DigitWithin None = Unit {0}
+DigitWithin (Some digit) = digit < 16
+
+abbrev pub ReadsDigit : ℕ → Option ℕ → Type 0
+ReadsDigit c r = (digit_seen r ≡ digit_of c) × DigitWithin r
 
 -- the octets up to the end, or up to the first fault
 pub record HexOctets : Type 0 where

@@ -1,7 +1,7 @@
 -- A line of the bench is words with blanks between them.
 use Rattle.std.specs.Prelude.{ℕ, suc, ◌+◌, List, [], ◌∷◌, Bool, true, false, cond, ◌||◌, ◌&&◌, drop, eqb}
 use Rattle.octets.specs.Part.{between}
-use Rattle.words.specs.declared.Word.{Word}
+use Rattle.octets.specs.declared.Span.{Span}
 
 -- a space, a tab or a carriage return
 abbrev pub blank : ℕ → Bool
@@ -18,14 +18,14 @@ letters [] = 0
 letters (c ∷ s) = cond (blank c) 0 (suc (letters s))
 
 -- the next word from a place on: blanks, then letters up to the next blank or the end
-unfoldable pub word_from : List ℕ → ℕ → Word
+unfoldable pub word_from : List ℕ → ℕ → Span
 word_from s start = record { start = start; end = start + letters (drop start s) }
 
-unfoldable pub word_at : List ℕ → ℕ → Word
+unfoldable pub word_at : List ℕ → ℕ → Span
 word_at s at = word_from s (at + blanks (drop at s))
 
 -- its letters
-abbrev pub spelled : List ℕ → Word → List ℕ
+abbrev pub spelled : List ℕ → Span → List ℕ
 spelled s w = between w.start w.end s
 
 unfoldable pub same : List ℕ → List ℕ → Bool

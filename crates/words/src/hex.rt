@@ -12,61 +12,62 @@ pub struct Row {
     pub ends: Ending,
 }
 
-// The value of a digit; 16 if it is none.
-fn digit_of(c: u8) -> u8
+// The value of a digit.
+fn digit_of(c: u8) -> Option<u8>
     ensures { ReadsDigit c result }
 {
-    if (48 <= c) & (c <= 57) {
-        return c - 48;
-    }
-    if (65 <= c) & (c <= 70) {
-        return c - 55;
-    }
-    if (97 <= c) & (c <= 102) {
-        return c - 87;
-    }
-    16
-}
-
-fn row_of(count: usize, ends: Ending) -> Row
-    ensures { result ≡ record { count = count; ends = ends } }
-{
-    Row {
-        count: count,
-        ends: ends,
+    match c {
+        b'0'..=b'9' => Some(c - 48),
+        b'A'..=b'F' => Some(c - 55),
+        b'a'..=b'f' => Some(c - 87),
+        _ => None,
     }
 }
 
 // Reads a row of octets into a lent buffer, up to the end of the text or the first fault.
+#[tactic(auto, using(crate::proofs::HexLaws::hex_steps))]
 pub fn read_hex(text: &[u8], buffer: &mut [u8]) -> Row
     ensures { ReadsHex text.now buffer.old buffer.new result }
 {
-    let mut n = 0;
-    let mut half = 16u8;
-    let mut i = 0;
-    while i < text.len() {
-        let c = text[i];
-        let digit = digit_of(c);
-        if is_blank(c) {
-            if half != 16 {
-                return row_of(n, Ending::Wrong);
+    let mut count = 0;
+    let mut half = None;
+    for c in text {
+        if is_blank(*c) {
+            if half.is_some() {
+                return Row {
+                    count,
+                    ends: Ending::Wrong,
+                };
             }
-        } else if digit == 16 {
-            return row_of(n, Ending::Wrong);
-        } else if half == 16 {
-            half = digit;
         } else {
-            if buffer.len() <= n {
-                return row_of(n, Ending::Long);
+            let Some(digit) = digit_of(*c) else {
+                return Row {
+                    count,
+                    ends: Ending::Wrong,
+                };
+            };
+            match half {
+                None => {
+                    half = Some(digit);
+                }
+                Some(first) => {
+                    if buffer.len() <= count {
+                        return Row {
+                            count,
+                            ends: Ending::Long,
+                        };
+                    }
+                    buffer[count] = first * 16 + digit;
+                    count += 1;
+                    half = None;
+                }
             }
-            buffer[n] = half * 16 + digit;
-            n += 1;
-            half = 16;
         }
-        i += 1;
     }
-    if half == 16 {
-        return row_of(n, Ending::Whole);
-    }
-    row_of(n, Ending::Wrong)
+    let ends = if half.is_some() {
+        Ending::Wrong
+    } else {
+        Ending::Whole
+    };
+    Row { count, ends }
 }

@@ -7,30 +7,11 @@ pub mod lines;
 pub mod numbers;
 pub mod text;
 
-// From one octet of a line up to, not including, another.
+// A number or an id that a word says, and the place behind it.
 #[derive(Clone, Copy)]
-pub struct Word {
-    pub start: usize,
-    pub end: usize,
-}
-
-#[derive(Clone, Copy)]
-pub enum Number {
-    Nothing,
-    Is(usize),
-}
-
-// A number of 0 to 255, and the place behind it.
-#[derive(Clone, Copy)]
-pub enum OctetAt {
-    NoOctet,
-    OctetIs { number: u8, next: usize },
-}
-
-#[derive(Clone, Copy)]
-pub enum IdAt {
-    NoId,
-    IdIs { id: i8, next: usize },
+pub struct At<T> {
+    pub value: T,
+    pub next: usize,
 }
 
 // How a row of octets in hex ends: at the end of the line, at what is no hex, or where no room is left.
@@ -52,14 +33,11 @@ pub enum Verb {
     Table,
     Buffer,
     Batch,
-    Other,
 }
 
 // What a line asks for. Octets in hex begin `at` a place of the line and go up to its end.
 #[derive(Clone, Copy)]
 pub enum Command {
-    Nothing,
-    Unknown,
     Receive {
         at: usize,
     },
@@ -100,3 +78,7 @@ pub enum Command {
         at: usize,
     },
 }
+
+// A line that is no command.
+#[derive(Clone, Copy, Debug, PartialEq, Eq)]
+pub struct NotUnderstood;

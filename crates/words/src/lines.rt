@@ -1,5 +1,5 @@
 // Lines out of pieces of input.
-ghost use Rattle.std.specs.Prelude.{◌≡◌, ◌+◌, ◌≤◌, min, length, drop};
+ghost use Rattle.std.specs.Prelude.{◌≡◌, ◌+◌, ◌≤◌, min, length};
 ghost use Rattle.words.specs.Lines.{line_end, piece, with_piece, gathered};
 
 // Where the next line begins, how long this one is by now, and whether it is whole.
@@ -10,17 +10,11 @@ pub struct Gathered {
     pub is_whole: bool,
 }
 
-fn line_end(s: &[u8], from: usize) -> usize
-    ensures { result ≡ from + line_end (drop from s.now) }
+// How many octets stand before the end of the line.
+fn line_end(s: &[u8]) -> usize
+    ensures { result ≡ line_end s.now }
 {
-    let mut i = from;
-    while i < s.len() {
-        if s[i] == b'\n' {
-            return i;
-        }
-        i += 1;
-    }
-    i
+    s.iter().take_while(|c| **c != b'\n').count()
 }
 
 // Puts what the input has of a line behind what is there of it.
@@ -30,22 +24,22 @@ pub fn gather(input: &[u8], from: usize, line: &mut [u8; 16384], have: usize) ->
     ensures line { line.new ≡ with_piece line.old have (piece input.now from) }
     ensures within { (result.next ≤ length input.now) × (result.have ≤ 16385) }
 {
-    let end = line_end(input, from);
+    let end = from + line_end(&input[from..]);
     let more = octets::part(input, from, end);
     let is_whole = end < input.len();
     let next = if is_whole { end + 1 } else { end };
     if 16384 < have + more.len() {
         return Gathered {
-            next: next,
+            next,
             have: 16385,
-            is_whole: is_whole,
+            is_whole,
         };
     }
     octets::put(line, have, more);
     Gathered {
-        next: next,
+        next,
         have: have + more.len(),
-        is_whole: is_whole,
+        is_whole,
     }
 }
 
@@ -53,8 +47,5 @@ pub fn gather(input: &[u8], from: usize, line: &mut [u8; 16384], have: usize) ->
 pub fn counted(number: u64) -> u64
     ensures { result ≡ min (number + 1) 18446744073709551615 }
 {
-    if number < u64::MAX {
-        return number + 1;
-    }
-    number
+    number.saturating_add(1)
 }

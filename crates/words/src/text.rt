@@ -1,67 +1,42 @@
 // Words, with blanks between them.
-ghost use Rattle.std.specs.Prelude.{◌≡◌, ◌+◌, drop};
+ghost use Rattle.std.specs.Prelude.{◌≡◌};
 ghost use Rattle.words.specs.Words.{blank, blanks, letters, word_at, same};
 
-use crate::Word;
+use octets::Span;
 
 pub fn is_blank(c: u8) -> bool
     ensures { result ≡ blank c }
 {
-    (c == 32) | (c == 9) | (c == 13)
+    matches!(c, b' ' | b'\t' | b'\r')
 }
 
-// The first place from one on that is no blank.
-fn past_blanks(s: &[u8], at: usize) -> usize
-    ensures { result ≡ at + blanks (drop at s.now) }
+// How many blanks a row of octets starts with.
+fn blanks(s: &[u8]) -> usize
+    ensures { result ≡ blanks s.now }
 {
-    let mut i = at;
-    while i < s.len() {
-        if !is_blank(s[i]) {
-            return i;
-        }
-        i += 1;
-    }
-    i
+    s.iter().take_while(|c| is_blank(**c)).count()
 }
 
-// The first place from one on that is a blank, or the end.
-fn past_letters(s: &[u8], at: usize) -> usize
-    ensures { result ≡ at + letters (drop at s.now) }
+// How many octets stand before the first blank.
+fn letters(s: &[u8]) -> usize
+    ensures { result ≡ letters s.now }
 {
-    let mut i = at;
-    while i < s.len() {
-        if is_blank(s[i]) {
-            return i;
-        }
-        i += 1;
-    }
-    i
+    s.iter().take_while(|c| !is_blank(**c)).count()
 }
 
 // The next word from a place on; empty where none is left.
-pub fn word_at(s: &[u8], at: usize) -> Word
+pub fn word_at(s: &[u8], at: usize) -> Span
     ensures { result ≡ word_at s.now at }
 {
-    let start = past_blanks(s, at);
-    let end = past_letters(s, start);
-    Word {
-        start: start,
-        end: end,
-    }
+    let start = at + blanks(octets::part(s, at, s.len()));
+    let end = start + letters(octets::part(s, start, s.len()));
+    Span { start, end }
 }
 
+// `==` by itself takes no byte string beside a slice, since their types differ.
+#[tactic(auto, using(crate::proofs::WordLaws::same_eq))]
 pub fn is_same(s: &[u8], t: &[u8]) -> bool
     ensures { result ≡ same s.now t.now }
 {
-    if s.len() != t.len() {
-        return false;
-    }
-    let mut i = 0;
-    while i < s.len() {
-        if s[i] != t[i] {
-            return false;
-        }
-        i += 1;
-    }
-    true
+    s == t
 }

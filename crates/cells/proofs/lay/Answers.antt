@@ -14,9 +14,6 @@ loop-at-init c =
 pub bits_at-bits-requires : goal.bits_at-bits-requires
 bits_at-bits-requires c = (held-there c.loop-at.invariant.0 c.loop-at-test.true, c.loop-at.invariant.1)
 
-pub overflow_add-at : goal.overflow_add-at
-overflow_add-at c = omega (arith, c.loop-at-test.true)
-
 pub turn-walk-requires : goal.turn-walk-requires
 turn-walk-requires c =
     let m = written-bound c.loop-at.invariant.0 in
@@ -25,9 +22,6 @@ turn-walk-requires c =
       room = room-there c.loop-at.walk c.loop-at.invariant.0 c.loop-at-test.true (c.bits_at-bits.result % 128) c.bits_at-bits.ensures.septet _ refl c.requires;
       bounds = (omega arith, (c.loop-at.invariant.0.narrow, (c.loop-at.invariant.0.spaced, (omega (arith, m, c.well_formed), omega (arith, n, c.well_formed)))));
     }
-
-pub loop-at-smaller : goal.loop-at-smaller
-loop-at-smaller c = omega (arith, c.loop-at-test.true)
 
 pub loop-at-preserved : goal.loop-at-preserved
 loop-at-preserved c =

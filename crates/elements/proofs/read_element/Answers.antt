@@ -52,7 +52,7 @@ pub returns-in_default-8 : goal.returns-in_default-8
 returns-in_default-8 c = let e : get_or c.args.s.now 0 0 ≡ 0xDF = omega arith in (bad-tag c.args.s.now (omega arith) (ap refused_tag e), tt)
 
 pub returns-in_default-9 : goal.returns-in_default-9
-returns-in_default-9 c = let e : get_or c.args.s.now 0 0 ≡ 0xFF = omega (arith, c.shared_slice_known-2-1.given 0) in (bad-tag c.args.s.now (omega arith) (ap refused_tag e), tt)
+returns-in_default-9 c = let e : get_or c.args.s.now 0 0 ≡ 0xFF = omega (arith, c.type_inv.s 0) in (bad-tag c.args.s.now (omega arith) (ap refused_tag e), tt)
 
 pub returns-in_default-read_length : goal.returns-in_default-read_length
 returns-in_default-read_length c =
@@ -60,25 +60,25 @@ returns-in_default-read_length c =
 
 pub overflow_add-start : goal.overflow_add-start
 overflow_add-start c =
-    let w = simp length-drop at (rw (c.in-Is.is, rest_part_lem 1 c.args.s.now) at c.read_length.ensures.1) in
+    let w = simp length-drop at (rw (c.in-Some.is, rest_part_lem 1 c.args.s.now) at c.read_length.ensures.1) in
     omega arith
 
 pub overflow_sub-s : goal.overflow_sub-s
 overflow_sub-s c =
-    let w = simp length-drop at (rw (c.in-Is.is, rest_part_lem 1 c.args.s.now) at c.read_length.ensures.1) in
+    let w = simp length-drop at (rw (c.in-Some.is, rest_part_lem 1 c.args.s.now) at c.read_length.ensures.1) in
     omega arith
 
 pub returns-then-s-start : goal.returns-then-s-start
 returns-then-s-start c =
-    let w = simp length-drop at (rw (c.in-Is.is, rest_part_lem 1 c.args.s.now) at c.read_length.ensures.1) in
-    (cut c.args.s.now (omega arith) c.in-Is.octets c.in-Is.taken (good (goal.at.returns-then-s-start c).Joined-tag-lt128) (rw (c.in-Is.is, rest_part_lem 1 c.args.s.now) at c.read_length.ensures.0) (omega arith) c.if-s-start.true, tt)
+    let w = simp length-drop at (rw (c.in-Some.is, rest_part_lem 1 c.args.s.now) at c.read_length.ensures.1) in
+    (cut c.args.s.now (omega arith) c.in-Some.length.octets c.in-Some.length.taken (good (goal.at.returns-then-s-start c).Joined-tag-lt128) (rw (c.in-Some.is, rest_part_lem 1 c.args.s.now) at c.read_length.ensures.0) (omega arith) c.if-s-start.true, tt)
 
 pub overflow_add-result : goal.overflow_add-result
 overflow_add-result c =
-    let w = simp length-drop at (rw (c.in-Is.is, rest_part_lem 1 c.args.s.now) at c.read_length.ensures.1) in
+    let w = simp length-drop at (rw (c.in-Some.is, rest_part_lem 1 c.args.s.now) at c.read_length.ensures.1) in
     omega arith
 
 pub returns : goal.returns
 returns c =
-    let w = simp length-drop at (rw (c.in-Is.is, rest_part_lem 1 c.args.s.now) at c.read_length.ensures.1) in
-    (whole c.args.s.now (omega arith) c.in-Is.octets c.in-Is.taken (good (goal.at.returns c).Joined-tag-lt128) (rw (c.in-Is.is, rest_part_lem 1 c.args.s.now) at c.read_length.ensures.0) (omega arith) c.if-s-start.false, omega arith)
+    let w = simp length-drop at (rw (c.in-Some.is, rest_part_lem 1 c.args.s.now) at c.read_length.ensures.1) in
+    (whole c.args.s.now (omega arith) c.in-Some.length.octets c.in-Some.length.taken (good (goal.at.returns c).Joined-tag-lt128) (rw (c.in-Some.is, rest_part_lem 1 c.args.s.now) at c.read_length.ensures.0) (omega arith) c.if-s-start.false, omega arith)

@@ -1,12 +1,12 @@
 use mathlib.Core.Path.{◌≡◌}
-use Prim.Native.Nat.{◌≤◌, ◌-◌}
-use lib.ListN.{length, drop}
+use Prim.Native.Nat.{◌≤◌, ◌+◌}
+use lib.ListN.{length}
 use Rattle.records.specs.Records.{messages_in, counted}
 use Rattle.records.proofs.RecordLaws.{counting}
 use Rattle.records.proofs.count_records.Given as goal
 
-abbrev pub invariant-loop-i : goal.invariant-loop-i
-invariant-loop-i l = (l.i ≤ length l.s) × ((l.n ≤ l.i) × (counting l.n (messages_in (drop l.i l.s)) ≡ counted l.s))
+abbrev pub invariant-loop-rest : goal.invariant-loop-rest
+invariant-loop-rest l = (l.n + length l.rest ≤ length l.s) × (counting l.n (messages_in l.rest) ≡ counted l.s)
 
-abbrev pub decreases-loop-i : goal.decreases-loop-i
-decreases-loop-i l = length l.s - l.i
+abbrev pub decreases-loop-rest : goal.decreases-loop-rest
+decreases-loop-rest l = length l.rest

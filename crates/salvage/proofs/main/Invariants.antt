@@ -1,8 +1,5 @@
-use Rattle.std.proofs.Common.{length, ◌-◌, ◌≤◌, ◌≡◌}
+use Rattle.std.proofs.Common.{◌≤◌}
 use Rattle.salvage.proofs.main.Given as goal
 
 abbrev pub invariant-loop-place : goal.invariant-loop-place
-invariant-loop-place l = (512 ≡ length l.block) × (l.kept ≤ l.place)
-
-abbrev pub decreases-loop-place : goal.decreases-loop-place
-decreases-loop-place l = 18446744073709551615 - l.place
+invariant-loop-place l = l.kept ≤ l.place

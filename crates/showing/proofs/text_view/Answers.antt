@@ -11,31 +11,10 @@ returns-in_default c =
     let v = rw c.in_default.is at c.requires.1 in
     c.no_text.ensures ∙ text-untold (shown_seen (take a.end a.s.now) a.shown) (drop a.end a.s.now) _ v.0
 
--- The string lies within the parameter.
-pub overflow_add-result-2 : goal.overflow_add-result-2
-overflow_add-result-2 c =
-    let a = c.args in
-    let l = parameter-long a.shown a.s.now c.parameter_length.result a.end c.parameter_length.ensures c.requires.0.0 c.requires.0.1 in
-    let v = rw c.in-Says.is at c.requires.1 in
-    omega arith
-
-pub overflow_add-result-4 : goal.overflow_add-result-4
-overflow_add-result-4 c =
-    let a = c.args in
-    let l = parameter-long a.shown a.s.now c.parameter_length.result a.end c.parameter_length.ensures c.requires.0.0 c.requires.0.1 in
-    let v = rw c.in-Says.is at c.requires.1 in
-    omega arith
-
-pub overflow_add-result-6 : goal.overflow_add-result-6
-overflow_add-result-6 c =
-    let a = c.args in
-    let l = parameter-long a.shown a.s.now c.parameter_length.result a.end c.parameter_length.ensures c.requires.0.0 c.requires.0.1 in
-    let v = rw c.in-Says.is at c.requires.1 in
-    omega arith
-
 pub returns : goal.returns
 returns c =
     let a = c.args in
+    let t = c.in-Some.told in
     let l = parameter-long a.shown a.s.now c.parameter_length.result a.end c.parameter_length.ensures c.requires.0.0 c.requires.0.1 in
-    let v = rw c.in-Says.is at c.requires.1 in
-    text-taken a.shown a.s.now c.parameter_length.result a.end c.parameter_length.ensures c.requires.0.0 c.requires.0.1 c.in-Says.scheme c.in-Says.from c.in-Says.to v.1.0 (omega arith) v.0
+    let v = rw c.in-Some.is at c.requires.1 in
+    text-taken a.shown a.s.now c.parameter_length.result a.end c.parameter_length.ensures c.requires.0.0 c.requires.0.1 t.scheme t.start t.end v.1.0 (omega arith) v.0

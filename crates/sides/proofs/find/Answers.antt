@@ -1,33 +1,35 @@
-use borrow.Author.Rules.{rules}
-use native.Mathlib.Numerals.{add-one}
+use Rattle.std.proofs.Common.{sym, ◌∙◌, add-one, arith}
+use Rattle.codes.proofs.IdLaws.{as_held, held-is}
 use Rattle.sides.proofs.Numbers.{shifted-suc}
-use Rattle.sides.proofs.Steps.{found-is}
-use Rattle.codes.specs.Ids.{id_of}
-use Rattle.sides.proofs.Steps.{found_here, found-behind, found_nowhere, before-four}
-use native.Mathlib.Omega.{arith}
-use mathlib.Core.Path.{refl}
+use Rattle.sides.proofs.Steps.{found_here, found-behind, found_nowhere, found-is, found-none, before-four}
 use Rattle.sides.proofs.find.Goals as goal
-
-pub loop-rest-init : goal.loop-rest-init
-loop-rest-init c = (search rules, (search rules, (omega arith, refl)))
 
 pub overflow_add-place : goal.overflow_add-place
 overflow_add-place c =
-    let h = found-behind c.loop-rest.rest c.loop-rest.invariant.1.0 c.octet_of-wanted.result c.loop-rest.invariant.0 c.loop-rest-test.true c.if-rest-wanted.false in
-    let k = before-four (id_of c.octet_of-wanted.result) c.args.side in
-    record { fits = omega (arith, h, k, c.loop-rest.invariant.1.1.0) }
+    let i = c.loop-id.invariant in
+    let h = found-behind c.loop-id.rest i.fits (rw c.operation_in.ensures at c.loop-id-test.true) (as_held c.args.id) (λ e. c.if-id_in-wanted.false (c.id_in.ensures ∙ e ∙ sym i.octet)) in
+    let k = before-four (as_held c.args.id) c.args.side in
+    record { fits = omega (arith, h.0, k, i.count) }
 
-pub loop-rest-preserved : goal.loop-rest-preserved
-loop-rest-preserved c =
-    let h = found-behind c.loop-rest.rest c.loop-rest.invariant.1.0 c.octet_of-wanted.result c.loop-rest.invariant.0 c.loop-rest-test.true c.if-rest-wanted.false in
-    (c.loop-rest.invariant.0, (omega (arith, c.loop-rest.invariant.1.0), (omega (arith, h, c.loop-rest.invariant.1.1.0), rw (add-one c.loop-rest.place, shifted-suc c.loop-rest.place c.args.side, c.loop-rest.invariant.1.1.1))))
+pub loop-id-preserved : goal.loop-id-preserved
+loop-id-preserved c =
+    let i = c.loop-id.invariant in
+    let h = found-behind c.loop-id.rest i.fits (rw c.operation_in.ensures at c.loop-id-test.true) (as_held c.args.id) (λ e. c.if-id_in-wanted.false (c.id_in.ensures ∙ e ∙ sym i.octet)) in
+    record {
+      octet = i.octet;
+      fits = omega (arith, i.fits);
+      count = omega (arith, h.0, i.count);
+      found = sym h.1 ∙ i.found;
+      behind = rw (add-one c.loop-id.place, shifted-suc c.loop-id.place c.args.side, i.behind);
+    }
 
-pub returns-after-loop-rest : goal.returns-after-loop-rest
-returns-after-loop-rest c =
-    let h = found_nowhere (id_of c.octet_of-wanted.result) c.loop-rest.rest c.loop-rest-test.false in
-    found-is c.args.id c.args.side c.octet_of-wanted.result c.loop-rest.place c.loop-rest.rest c.ranges.id c.octet_of-wanted.ensures (omega (arith, h, c.loop-rest.invariant.1.1.0)) c.loop-rest.invariant.1.1.1
+pub returns-then-id_in-wanted : goal.returns-then-id_in-wanted
+returns-then-id_in-wanted c =
+    let i = c.loop-id.invariant in
+    let h = found_here c.loop-id.rest i.fits (rw c.operation_in.ensures at c.loop-id-test.true) (as_held c.args.id) (sym c.id_in.ensures ∙ c.if-id_in-wanted.true ∙ i.octet) in
+    found-is (held-is c.ranges.id) c.args.side c.loop-id.place c.loop-id.rest (omega (arith, h.0, i.count)) i.behind (sym i.found ∙ h.1)
 
-pub returns-then-rest-wanted : goal.returns-then-rest-wanted
-returns-then-rest-wanted c =
-    let h = found_here c.loop-rest.rest c.loop-rest.invariant.1.0 c.octet_of-wanted.result c.loop-rest.invariant.0 c.loop-rest-test.true c.if-rest-wanted.true in
-    found-is c.args.id c.args.side c.octet_of-wanted.result c.loop-rest.place c.loop-rest.rest c.ranges.id c.octet_of-wanted.ensures (omega (arith, h, c.loop-rest.invariant.1.1.0)) c.loop-rest.invariant.1.1.1
+pub returns : goal.returns
+returns c =
+    let i = c.loop-id.invariant in
+    found-none (held-is c.ranges.id) c.args.side (sym i.found ∙ found_nowhere (as_held c.args.id) c.loop-id.rest (sym c.operation_in.ensures ∙ c.loop-id-test.false))

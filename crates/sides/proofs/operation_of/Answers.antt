@@ -1,16 +1,17 @@
-use mathlib.Core.Path.{◌≡◌, ap, ◌∙◌}
-use Prim.Native.Nat.{ℕ, ◌/◌, ◌%◌}
-use lib.Dec.{eqb}
+use Rattle.std.proofs.Common.{ap, sym, ◌∙◌}
 use Rattle.codes.proofs.IdLaws.{held-is}
-use Rattle.sides.specs.Side.{operation_of}
-use Rattle.sides.specs.Seen.{side_seen}
-use Rattle.sides.proofs.Steps.{operation-at, used-told}
+use Rattle.sides.specs.Seen.{side_seen, number_or0}
+use Rattle.sides.proofs.Steps.{there_of, none_of, operation-at, operation-none}
 use Rattle.sides.proofs.operation_of.Goals as goal
 
-pub returns : goal.returns
-returns c =
+pub returns-in_err-found-clause-value : goal.returns-in_err-found-clause-value
+returns-in_err-found-clause-value c =
     let a = c.args in
-    let i = held-is c.ranges.id in
-    let q : c.operation_in.result ≡ c.find.result.rest / 256 % 256 = c.operation_in.ensures in
-    let e : c.operation_in.result ≡ operation_of a.id (side_seen a.side) = rw (c.find.ensures, i) at q ∙ operation-at a.id a.side c.ranges.side.fits in
-    record { value = e; result_value = ap (λ (n : ℕ). eqb n 0) e ∙ used-told a.id a.side }
+    let n = none_of a.id a.side (rw (held-is c.ranges.id) at c.in_err-found.ensures) in
+    ap number_or0 c.from_residual.ensures ∙ sym (operation-none a.id (side_seen a.side) n)
+
+pub returns-clause-value : goal.returns-clause-value
+returns-clause-value c =
+    let a = c.args in
+    let f = there_of a.id a.side c.in_ok-found.found (rw (held-is c.ranges.id) at c.in_ok-found.ensures) in
+    c.operation_in.ensures ∙ rw f.1 (operation-at a.id a.side c.ranges.side.fits)

@@ -1,27 +1,14 @@
-use mathlib.Core.Path.{◌≡◌, refl, ap, ◌∙◌}
-use native.Mathlib.Omega.{arith}
-use Prim.Native.Nat.{◌-◌}
-use borrow.Author.Tests.{not-true, not-false}
-use Rattle.table.specs.Table.{Entry, lowest_from, lowest_closed}
-use Rattle.table.proofs.Steps.{at-closed, past_open}
+use Rattle.std.proofs.Common.{◌≡◌, true, false, rules, tests}
+use Rattle.std.proofs.lemmas.Iterator.{first_from_Range}
+use Rattle.table.specs.Table.{entry_at}
+use Rattle.table.proofs.Steps.{lowest-is}
 use Rattle.table.proofs.lowest_closed.Goals as goal
 
-pub loop-v-init : goal.loop-v-init
-unfolding lowest_closed
-loop-v-init c = (omega arith, refl)
-
-pub returns-then-not-read_entry : goal.returns-then-not-read_entry
-returns-then-not-read_entry c =
-    let o = ap (λ (e : Entry). e.is_open) c.read_entry.ensures.1 in
-    at-closed c.args.table.now c.loop-v.v _ o c.loop-v-test.true (not-true _ c.if-not-read_entry.true) ∙ c.loop-v.invariant.1
-
-pub loop-v-preserved : goal.loop-v-preserved
-loop-v-preserved c =
-    let o = ap (λ (e : Entry). e.is_open) c.read_entry.ensures.1 in
-    (omega arith, past_open c.args.table.now c.loop-v.v _ o c.loop-v-test.true (not-false _ c.if-not-read_entry.false) ∙ c.loop-v.invariant.1)
-
 pub returns : goal.returns
-unfolding lowest_from
 returns c =
-    let e : 7 - c.loop-v.v ≡ 0 = omega arith in
-    rw e at c.loop-v.invariant.1
+    let t = c.args.table.now in
+    lowest-is t c.find.result (
+    first_from_Range _ _ _ _ (λ v. (entry_at t v).is_open ≡ false) (λ v. (entry_at t v).is_open ≡ true) c.find.ensures.ran
+    (λ v q k. search (rules, tests))
+    (λ v q k. (search rules, search (rules, tests)))
+    )

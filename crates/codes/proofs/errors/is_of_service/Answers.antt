@@ -36,19 +36,19 @@ returns-in-18 c =
 pub returns-in-12-to-13 : goal.returns-in-12-to-13
 returns-in-12-to-13 c = of_two_lem true 12 2 refl c.args.operation (omega arith) (omega arith) c.in-19.is
 
-pub returns-in_default-operation : goal.returns-in_default-operation
-returns-in_default-operation c = of_two_lem false 0 12 refl c.args.operation (omega arith) (omega arith) c.in-19.is
+pub returns-in_default-matches : goal.returns-in_default-matches
+returns-in_default-matches c = of_two_lem false 0 12 refl c.args.operation (omega arith) (omega arith) c.in-19.is
 
-pub returns-in_default-operation-3 : goal.returns-in_default-operation-3
-returns-in_default-operation-3 c = of_two_lem false 14 242 refl c.args.operation (omega arith) (omega arith) c.in-19.is
+pub returns-in_default-matches-3 : goal.returns-in_default-matches-3
+returns-in_default-matches-3 c = of_two_lem false 14 242 refl c.args.operation (omega arith) (omega arith) c.in-19.is
 
 pub returns-in-10 : goal.returns-in-10
 returns-in-10 c =
     at_key (λ o. true) (λ o. of_service o 20) (10 ∷ 12 ∷ []) refl c.args.operation c.in-10.is ∙ sym (ap (of_service c.args.operation) c.in-20.is)
 
-pub returns-in_default-operation-2 : goal.returns-in_default-operation-2
-returns-in_default-operation-2 c =
-    on (λ o. false) (λ o. of_service o 20) (10 ∷ 12 ∷ []) 0 256 refl c.args.operation (omega arith) (omega arith) c.in_default-operation-2.in_default-operation-2-own.rest.1 ∙ sym (ap (of_service c.args.operation) c.in-20.is)
+pub returns-in_default-matches-2 : goal.returns-in_default-matches-2
+returns-in_default-matches-2 c =
+    on (λ o. false) (λ o. of_service o 20) (10 ∷ 12 ∷ []) 0 256 refl c.args.operation (omega arith) (omega arith) c.in_default-matches-2.in_default-matches-2-own.rest.1 ∙ sym (ap (of_service c.args.operation) c.in-20.is)
 
 pub returns-in_default : goal.returns-in_default
 returns-in_default c = on (λ k. false) (of_service c.args.operation) [] 0 10 refl c.args.code (omega arith) (omega arith) (λ e. e)

@@ -1,26 +1,26 @@
-use Prim.Native.Nat.{◌+◌, ◌*◌, ◌≤◌}
-use mathlib.Core.Path.{refl, ◌∙◌}
+use Prim.Native.Nat.{◌+◌, ◌-◌, ◌≤◌}
 use native.Mathlib.Omega.{arith}
-use lib.ListN.{drop}
-use Rattle.printing.proofs.JoinLaws.{nothing, join}
-use Rattle.reports.specs.Slots.{slot_text, slot_lines}
-use Rattle.reports.proofs.SlotLaws.{one_more_lem, all-written}
+use lib.ListN.{length}
+use Rattle.std.proofs.Common.{rules}
+use Rattle.printing.proofs.PageLaws.{ended}
+use Rattle.reports.proofs.SlotLaws.{slot_more, no_slot}
 use Rattle.reports.proofs.slots.slot_lines.Goals as goal
 
-pub loop-k-init : goal.loop-k-init
-unfolding slot_lines
-loop-k-init c =
-    let n = nothing c.args.page.now c.args.at in
-    (omega arith, (refl, (n.0, (n.1, omega arith))))
+pub slot_text-requires : goal.slot_text-requires
+slot_text-requires g c =
+    let l : 14 ≤ length c.loop.rest.now = omega (arith, c.loop.invariant.left, c.loop-test.true) in
+    let r : length c.loop.page + 1328 ≤ g.row.N = omega (arith, c.loop.invariant.within, c.loop-test.true) in
+    search rules
 
-pub loop-k-preserved : goal.loop-k-preserved
-loop-k-preserved c =
-    let a = c.args in
-    let m : c.slot_text-place.result ≤ a.at + 1328 * (c.loop-k.k + 1) = omega (arith, c.loop-k.invariant.1.1.1.1, c.slot_text-place.ensures.1.1) in
-    let j = join a.page.now a.at (slot_lines c.loop-k.k a.output.now) (slot_text (drop (14 * c.loop-k.k) a.output.now))
-    _ _ _ _ (omega (arith, m, c.loop-k-test.true, c.requires)) (c.loop-k.invariant.1.1.0, c.loop-k.invariant.1.1.1.0) (c.slot_text-place.ensures.0, c.slot_text-place.ensures.1.0) in
-    rw (← one_more_lem c.loop-k.k a.output.now) (omega arith, (c.slot_text-place.auto.page ∙ c.loop-k.invariant.1.0, (j.0, (j.1, m))))
+pub loop-preserved : goal.loop-preserved
+loop-preserved g c =
+    let l = c.loop in
+    let left = c.args.slots - l.counter in
+    let next = c.args.slots - (l.counter + 1) in
+    let m = slot_more l.page _ c.slot_text.new.page l.rest.now left next (omega arith) c.slot_text.ensures.0 l.invariant.text l.invariant.left in
+    record { text = m.0; left = m.1; within = omega (arith, l.invariant.within, c.slot_text.ensures.1) }
 
 pub returns : goal.returns
-returns c =
-    let a = c.args in all-written a.page.now a.at a.output.now c.loop-k.page c.loop-k.place c.loop-k.k a.slots (omega arith) c.loop-k.invariant.1.1
+returns g c =
+    let l = c.loop in
+    (ended _ _ _ (no_slot (c.args.slots - l.counter) l.rest.now (omega arith)) l.invariant.text, omega (arith, l.invariant.within))

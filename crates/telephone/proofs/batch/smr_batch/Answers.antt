@@ -17,15 +17,15 @@ returns-in_default c =
 pub returns-then-output-n : goal.returns-then-output-n
 returns-then-output-n c =
     let a = c.args in
-    let r = refused-room a.table.now a.records.now a.output.now (sym c.is_valid.ensures ∙ c.if-not-is_valid.false) _ (rw c.in-Whole.is at c.count_records.ensures) _ c.if-output-n.true c.refused-then-output-n.ensures in
+    let r = refused-room a.table.now a.records.now a.output.now (sym c.is_valid.ensures ∙ c.if-not-is_valid.false) _ (rw c.in-Some.is at c.count_records.ensures) _ c.if-output-n.true c.refused-then-output-n.ensures in
     record { returned = r.0; output = r.1.0; table = r.1.1 }
 
 pub feed-requires : goal.feed-requires
 feed-requires c =
-    let a = c.args in can-feed a.table.now a.records.now a.output.now (sym c.is_valid.ensures ∙ c.if-not-is_valid.false) _ (rw c.in-Whole.is at c.count_records.ensures) c.if-output-n.false
+    let a = c.args in can-feed a.table.now a.records.now a.output.now (sym c.is_valid.ensures ∙ c.if-not-is_valid.false) _ (rw c.in-Some.is at c.count_records.ensures) c.if-output-n.false
 
 pub returns : goal.returns
 returns c =
     let a = c.args in
-    let r = wholly-fed a.table.now a.records.now a.output.now (sym c.is_valid.ensures ∙ c.if-not-is_valid.false) _ (rw c.in-Whole.is at c.count_records.ensures) c.if-output-n.false _ _ c.feed.ensures.output c.feed.ensures.table in
+    let r = wholly-fed a.table.now a.records.now a.output.now (sym c.is_valid.ensures ∙ c.if-not-is_valid.false) _ (rw c.in-Some.is at c.count_records.ensures) c.if-output-n.false _ _ c.feed.ensures.output c.feed.ensures.table in
     record { returned = r.0; output = r.1.0; table = r.1.1 }

@@ -1,12 +1,10 @@
-use Rattle.trace.proofs.NumberLaws.{zero-on, zero-here, zero-over}
-use Rattle.std.proofs.Common.{◌∙◌}
+use Rattle.std.proofs.Common.{◌∙◌, eqb, rules, tests}
+use Rattle.std.proofs.lemmas.Iterator.{YieldsList-from_slice}
+use Rattle.std.proofs.lemmas.Iterator.Search.{all_from_yields_List}
+use Rattle.trace.proofs.NumberLaws.{each_zero}
 use Rattle.trace.proofs.blocks.is_zero.Goals as goal
 
-pub returns-then-s-i-ne0 : goal.returns-then-s-i-ne0
-returns-then-s-i-ne0 c = zero-here c.args.s.now c.loop-i.i c.loop-i-test.true c.if-s-i-ne0.true ∙ c.loop-i.invariant
-
-pub loop-i-preserved : goal.loop-i-preserved
-loop-i-preserved c = zero-on c.args.s.now c.loop-i.i c.loop-i-test.true c.if-s-i-ne0.false ∙ c.loop-i.invariant
-
 pub returns : goal.returns
-returns c = zero-over c.args.s.now c.loop-i.i c.loop-i-test.false ∙ c.loop-i.invariant
+returns c =
+    all_from_yields_List (λ octet. eqb octet 0) _ _ c.all.result c.all.ensures.ran (YieldsList-from_slice c.args.s.now cc) (λ x b q k. search (rules, tests))
+    ∙ each_zero c.args.s.now

@@ -1,6 +1,7 @@
 use Rattle.trace.specs.Blocks.{number_in}
+use Rattle.std.proofs.Common.{arith}
 use Rattle.trace.proofs.blocks.number_in.Goals as goal
 
 pub returns : goal.returns
 unfolding number_in
-returns c = rw (← c.pair_at.ensures.0, ← c.pair_at-2.ensures.0)
+returns c = omega (arith, c.from_be_bytes.ensures)

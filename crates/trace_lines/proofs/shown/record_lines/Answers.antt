@@ -1,73 +1,39 @@
-use Rattle.octets.proofs.PartLaws.{length-between}
-use Rattle.trace_lines.proofs.ShownLaws.{lines_at, at_length, at-step, at_none, not-bad, part-behind}
+use Rattle.octets.proofs.PartLaws.{length-between, rest_part_lem, left_over, none_left}
+use Rattle.trace_lines.proofs.ShownLaws.{lines_at, at-step, at_none, not-bad}
 use Rattle.trace.proofs.RecordLaws.{sound-step}
-use Rattle.printing.proofs.JoinLaws.{piece, ended}
-use Rattle.octets.proofs.PartLaws.{rest_part_lem}
-use lib.Seq.{drop-drop}
+use Rattle.printing.proofs.PageLaws.{piece, ended}
 use lib.ListN.{drop, length-drop}
-use Prim.Native.Nat.{◌+◌}
-use mathlib.Core.Path.{refl, sym, ◌∙◌}
+use mathlib.Core.Path.{sym, ap, ◌∙◌}
 use native.Mathlib.Omega.{arith}
 use Rattle.trace_lines.proofs.shown.record_lines.Goals as goal
 
-pub loop-i-init : goal.loop-i-init
-loop-i-init c = (omega arith, (omega arith, (refl, (c.requires.0, (refl, omega arith)))))
-
 pub returns-in_default : goal.returns-in_default
-returns-in_default c =
-    let e = rw (c.in_default.is, rest_part_lem c.loop-i.i c.args.s.now) at c.read_traced.ensures.0 in
-    absurd (not-bad (drop c.loop-i.i c.args.s.now) _ (simp length-drop (omega arith)) (sym e) c.loop-i.invariant.1.1.1.0)
+returns-in_default g c =
+    let l = c.loop-rest in
+    let e = rw c.in_default.is at c.read_traced.ensures.0 in
+    absurd (not-bad l.rest.now _ (left_over _ c.loop-rest-test.ensures) (sym e) l.invariant.0)
 
-pub overflow_add-i-in-loop-i : goal.overflow_add-i-in-loop-i
-overflow_add-i-in-loop-i c =
-    let w = simp length-drop at (rw (c.in-Whole.is, rest_part_lem c.loop-i.i c.args.s.now) at c.read_traced.ensures.1) in
-    omega arith
+pub record_line-requires : goal.record_line-requires
+record_line-requires g c =
+    let l = c.loop-rest in
+    let w = rw c.in-Some.is at c.read_traced.ensures.1 in
+    let m = length-between 2 c.in-Some.found.end l.rest.now (omega arith) in
+    omega (arith, m, c.requires.1, l.invariant.1.1)
 
-pub slice_bounds-record_line-count : goal.slice_bounds-record_line-count
-slice_bounds-record_line-count c =
-    let w = simp length-drop at (rw (c.in-Whole.is, rest_part_lem c.loop-i.i c.args.s.now) at c.read_traced.ensures.1) in
-    omega arith
-
-pub slice_bounds-record_line-start : goal.slice_bounds-record_line-start
-slice_bounds-record_line-start c =
-    let w = simp length-drop at (rw (c.in-Whole.is, rest_part_lem c.loop-i.i c.args.s.now) at c.read_traced.ensures.1) in
-    omega arith
-
-pub slice_bounds-record_line-end : goal.slice_bounds-record_line-end
-slice_bounds-record_line-end c =
-    let w = simp length-drop at (rw (c.in-Whole.is, rest_part_lem c.loop-i.i c.args.s.now) at c.read_traced.ensures.1) in
-    omega arith
-
-pub record_line-at-requires : goal.record_line-at-requires
-record_line-at-requires c =
-    let w = simp length-drop at (rw (c.in-Whole.is, rest_part_lem c.loop-i.i c.args.s.now) at c.read_traced.ensures.1) in
-    let long = length-between (c.loop-i.i + 2) (c.loop-i.i + c.in-Whole.end) c.args.s.now (omega arith) in
-    omega (arith, long, c.requires.1)
-
-pub overflow_add-i-in-loop-i-2 : goal.overflow_add-i-in-loop-i-2
-overflow_add-i-in-loop-i-2 c =
-    let w = simp length-drop at (rw (c.in-Whole.is, rest_part_lem c.loop-i.i c.args.s.now) at c.read_traced.ensures.1) in
-    omega arith
-
-pub loop-i-smaller : goal.loop-i-smaller
-loop-i-smaller c =
-    let w = simp length-drop at (rw (c.in-Whole.is, rest_part_lem c.loop-i.i c.args.s.now) at c.read_traced.ensures.1) in
-    omega arith
-
-pub loop-i-preserved : goal.loop-i-preserved
-loop-i-preserved c =
-    let w = simp length-drop at (rw (c.in-Whole.is, rest_part_lem c.loop-i.i c.args.s.now) at c.read_traced.ensures.1) in
-    let e = rw (c.in-Whole.is, rest_part_lem c.loop-i.i c.args.s.now) at c.read_traced.ensures.0 in
-    let m = length-between (c.loop-i.i + 2) (c.loop-i.i + c.in-Whole.end) c.args.s.now (omega arith) in
-    let b = simp length-drop at (at_length (drop c.loop-i.i c.args.s.now) c.loop-i.invariant.1.1.1.0) in
-    let q = rw (part-behind c.loop-i.i 2 c.in-Whole.end c.args.s.now) at c.record_line-at.ensures.0 in
-    let k = rw (part-behind c.loop-i.i 2 c.in-Whole.end c.args.s.now) at c.record_line-at.ensures.1.0 in
-    let f = at-step (drop c.loop-i.i c.args.s.now) _ (sym e) c.loop-i.invariant.1.1.1.0 in
-    let t = piece c.loop-i.page c.loop-i.at (lines_at (drop c.loop-i.i c.args.s.now)) _ _ c.record_line-at.new.page c.record_line-at.result f (omega (arith, c.requires.1)) (q, k) in
-    rw (← drop-drop c.in-Whole.end c.loop-i.i c.args.s.now)
-    (omega arith, (omega (arith, m, c.record_line-at.ensures.1.1), (c.record_line-at.auto.page ∙ c.loop-i.invariant.1.1.0, (sound-step (drop c.loop-i.i c.args.s.now) _ (sym e) ∙ c.loop-i.invariant.1.1.1.0, (t.0 ∙ c.loop-i.invariant.1.1.1.1.0, t.1 ∙ c.loop-i.invariant.1.1.1.1.1)))))
+pub loop-rest-preserved : goal.loop-rest-preserved
+loop-rest-preserved g c =
+    let l = c.loop-rest in
+    let end = c.in-Some.found.end in
+    let e = rw c.in-Some.is at c.read_traced.ensures.0 in
+    let w = rw c.in-Some.is at c.read_traced.ensures.1 in
+    let m = length-between 2 end l.rest.now (omega arith) in
+    let d = length-drop end l.rest.now in
+    let f = at-step l.rest.now _ (sym e) l.invariant.0 in
+    let t = piece _ (lines_at l.rest.now) _ (lines_at (drop end l.rest.now)) _ f c.record_line.ensures.0 in
+    rw (rest_part_lem end l.rest.now)
+    (sound-step l.rest.now _ (sym e) ∙ l.invariant.0, (t ∙ l.invariant.1.0, omega (arith, m, d, l.invariant.1.1, c.record_line.ensures.1)))
 
 pub returns : goal.returns
-returns c =
-    let e = ended c.loop-i.page c.loop-i.at (lines_at (drop c.loop-i.i c.args.s.now)) (at_none (drop c.loop-i.i c.args.s.now) (simp length-drop (omega arith))) in
-    (sym e.0 ∙ c.loop-i.invariant.1.1.1.1.0, (omega arith, omega arith))
+returns g c =
+    let l = c.loop-rest in
+    (ended _ _ _ (ap lines_at (none_left _ c.loop-rest-test.ensures) ∙ at_none) l.invariant.1.0, omega (arith, l.invariant.1.1))

@@ -6,4 +6,4 @@ use Rattle.trace_lines.proofs.shown.refused_at.Goals as goal
 
 pub returns : goal.returns
 unfolding bad_line
-returns c = fills 80 80 _ _ _ _ _ refl (omega arith) c.four_line.ensures
+returns c = fills 80 80 _ _ _ _ c.clear.ensures refl (omega arith) (rw c.number-number.ensures at c.four_line.ensures)

@@ -1,12 +1,13 @@
-use mathlib.Core.Path.{sym, ◌∙◌}
-use Rattle.words.proofs.LineLaws.{line-here, line_on, line-over}
+use Rattle.std.proofs.Common.{◌∙◌, not, rules, tests}
+use Rattle.std.proofs.Math.Dec.{eqb}
+use Rattle.std.proofs.lemmas.Iterator.{YieldsList-from_slice}
+use Rattle.std.proofs.lemmas.Iterator.Consumers.{count_from_yields_List}
+use Rattle.std.proofs.lemmas.Iterator.Search.{YieldsList-from_take_while}
+use Rattle.std.proofs.lemmas.List.Folds.{length-prefix_len}
+use Rattle.words.proofs.LineLaws.{line-counted}
 use Rattle.words.proofs.lines.line_end.Goals as goal
 
-pub returns-then-s-i-eq10 : goal.returns-then-s-i-eq10
-returns-then-s-i-eq10 c = sym (line-here c.args.s.now c.loop-i.i c.loop-i-test.true c.if-s-i-eq10.true) ∙ c.loop-i.invariant
-
-pub loop-i-preserved : goal.loop-i-preserved
-loop-i-preserved c = line_on c.args.s.now c.loop-i.i c.loop-i-test.true c.if-s-i-eq10.false ∙ c.loop-i.invariant
-
 pub returns : goal.returns
-returns c = sym (line-over c.args.s.now c.loop-i.i c.loop-i-test.false) ∙ c.loop-i.invariant
+returns c =
+    count_from_yields_List c.take_while.result _ c.count.ensures.ran (YieldsList-from_take_while _ (λ x. not (eqb x 10)) (YieldsList-from_slice c.args.s.now (cc)) c.take_while.ensures.closure c.take_while.ensures.done (λ x b q k. search (rules, tests)))
+    ∙ (length-prefix_len (λ x. not (eqb x 10)) c.args.s.now ∙ line-counted c.args.s.now)
