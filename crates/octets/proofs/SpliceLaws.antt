@@ -1,20 +1,18 @@
--- Octets written at a place: one writing after another, and what is read afterwards.
+-- Octets written at a place: the copying loop, one writing after another, and what is read afterwards.
 use mathlib.Core.Path.{◌≡◌, sym, ap, ◌∙◌}
 use mathlib.Core.List.{List, ◌++◌, append_assoc}
 use Prim.Native.Nat.{ℕ, ◌+◌, ◌-◌, ◌<◌, ◌≤◌}
 use native.Mathlib.Nat.{zero-add}
+use native.Mathlib.Numerals.{add-one}
 use native.Mathlib.Omega.{arith}
-use lib.ListN.{length, take, drop, get_or, length-append, get_or-append}
-use lib.Seq.{paste, take-length, length-take-le, length-paste, drop-drop, take_at, drop-append-add, get_or-append-add, get_or-take, get_or-drop}
-use borrow.Rule.Slice.PartMut.{put_mid}
+use lib.ListN.{length, take, drop, set, get_or, length-append, get_or-append}
+use lib.Seq.{paste, paste-suc, take-length, length-take-le, length-paste, drop-drop, take_at, drop-append-add, get_or-append-add, get_or-take, get_or-drop}
 use Rattle.octets.specs.Splice.{splice}
 
--- the part that was lent, filled with as many octets
-pub copied : (d : List ℕ) (at : ℕ) (s l : List ℕ) → l ≡ s → put_mid at (at + length s - at) d l ≡ splice d at s
-unfolding splice
-copied d at s l e =
-    let h : at + length s - at ≡ length s = omega arith in
-    rw (e, h) (ap (λ (r : List ℕ). take at d ++ (s ++ r)) (drop-drop (length s) at d) ∙ sym (append_assoc (take at d) s _))
+-- a turn of the copying loop
+pub turn : (d : List ℕ) (at : ℕ) (s l : List ℕ) (j : ℕ) → l ≡ paste d at s j → at + j < length d → j < length s
+    → set l (at + j) (get_or s j 0) ≡ paste d at s (j + 1)
+turn d at s l j e p q = rw (e, add-one j) (paste-suc d at s j 0 p q)
 
 -- the whole was copied
 pub whole : (d : List ℕ) (at : ℕ) (s : List ℕ) (j : ℕ) → j ≡ length s → paste d at s j ≡ splice d at s

@@ -28,5 +28,7 @@ pub fn put(buf: &mut [u8], at: usize, src: &[u8])
     requires { at + length src.now ≤ length buf.old }
     ensures { buf.new ≡ splice buf.old at src.now }
 {
-    buf[at..at + src.len()].copy_from_slice(src);
+    for (j, octet) in src.iter().enumerate() {
+        buf[at + j] = *octet;
+    }
 }
