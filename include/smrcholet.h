@@ -8,8 +8,7 @@
  *
  * smr_cells is in libcells.a, smr_trace_begin and smr_trace_add are in
  * libtrace.a, the other calls are in libtelephone.a; no archive needs another.
- * libtelephone.a needs memmove, libtrace.a memmove and memset, as any
- * compiler's code may; libcells.a needs nothing.
+ * libtrace.a needs memset, as any compiler's code may; the others need nothing.
  */
 #ifndef SMRCHOLET_H
 #define SMRCHOLET_H
