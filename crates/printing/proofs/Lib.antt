@@ -1,3 +1,4 @@
+pub mod JoinLaws
 pub mod PageLaws
 pub mod FortyLaws
 pub mod TextFortyLaws

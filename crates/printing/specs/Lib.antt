@@ -1,3 +1,4 @@
+pub mod Lent
 pub mod Page
 pub mod Numbers
 pub mod Lines

@@ -1,4 +1,4 @@
-// Text for a display of forty cells, put on a page.
+// Text for a display of forty cells, written into a lent page or put on a page of its own.
 #![tactic(auto)]
 
 pub mod lines;

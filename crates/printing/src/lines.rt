@@ -1,9 +1,18 @@
-// Lines on a page.
+// Lines at a place of a lent page; each answers the place behind. One that does not apply is left out.
 ghost use Rattle.std.specs.Prelude.{◌≡◌, ◌+◌, ◌*◌, ◌≤◌, length};
-ghost use Rattle.printing.specs.Page.{WroteWithin};
-ghost use Rattle.printing.specs.Lines.{next_text, next_column, folded, octets_line, number_line, id_line, problem_line};
+ghost use Rattle.printing.specs.Lent.{WroteWithin};
+ghost use Rattle.printing.specs.Lines.{next_text, next_column, folded, when, octets_line, number_line, id_line, problem_line};
 
-use crate::page::Page;
+use crate::numbers::{put_decimal, put_id, put_pair, put_words};
+
+// One octet more in a line that has so many characters.
+fn put_next(page: &mut [u8], at: usize, column: usize, octet: u8) -> usize
+    requires { at + 4 ≤ length page.old }
+    ensures { WroteWithin 4 page.old at (next_text column octet) page.new result }
+{
+    let place = put_words(page, at, if 37 < column { b"\n " } else { b" " });
+    put_pair(page, place, octet)
+}
 
 fn next_column(column: usize) -> usize
     ensures { result ≡ next_column column }
@@ -11,73 +20,73 @@ fn next_column(column: usize) -> usize
     if column <= 37 { column + 3 } else { 3 }
 }
 
-impl<const N: usize> Page<N> {
-    // One octet more in a line that has so many characters.
-    fn next(&mut self, column: usize, octet: u8)
-        requires { length self.old + 4 ≤ N }
-        ensures { WroteWithin 4 self.old (next_text column octet) self.new }
-    {
-        self.words(if 37 < column { b"\n " } else { b" " });
-        self.pair(octet);
+// Octets behind so many characters of a line, folded at forty.
+fn put_folded(page: &mut [u8], at: usize, column: usize, octets: &[u8]) -> usize
+    requires { at + 4 * length octets.now ≤ length page.old }
+    ensures { WroteWithin (4 * length octets.now) page.old at (folded column octets.now) page.new result }
+{
+    let mut place = at;
+    let mut width = column;
+    for octet in octets {
+        place = put_next(page, place, width, *octet);
+        width = next_column(width);
     }
+    place
+}
 
-    // Octets behind so many characters of a line, folded at forty.
-    fn folded(&mut self, column: usize, octets: &[u8])
-        requires { length self.old + 4 * length octets.now ≤ N }
-        ensures { WroteWithin (4 * length octets.now) self.old (folded column octets.now) self.new }
-    {
-        let mut width = column;
-        for octet in octets {
-            self.next(width, *octet);
-            width = next_column(width);
-        }
+// A word and octets.
+pub fn octets_line(page: &mut [u8], at: usize, there: bool, word: &[u8], octets: &[u8]) -> usize
+    requires { (length word.now ≤ 16) × (at + 4 * length octets.now + 64 ≤ length page.old) }
+    ensures { WroteWithin (4 * length octets.now + 64) page.old at
+        (when there (octets_line word.now octets.now)) page.new result }
+{
+    if !there {
+        return at;
     }
+    let behind = put_words(page, at, word);
+    let last = put_folded(page, behind, word.len(), octets);
+    put_words(page, last, b"\n")
+}
 
-    // A word and octets.
-    #[tactic(auto, unfolding(crate::specs::Lines::octets_line))]
-    pub fn octets_line(&mut self, word: &[u8], octets: &[u8])
-        requires { (length word.now ≤ 16) × (length self.old + 4 * length octets.now + 64 ≤ N) }
-        ensures { WroteWithin (4 * length octets.now + 64) self.old (octets_line word.now octets.now) self.new }
-    {
-        self.words(word);
-        self.folded(word.len(), octets);
-        self.words(b"\n"); // behind the last octet
+// A word and a number.
+pub fn number_line(page: &mut [u8], at: usize, there: bool, word: &[u8], n: u64) -> usize
+    requires { (length word.now ≤ 16) × (at + 64 ≤ length page.old) }
+    ensures { WroteWithin 64 page.old at (when there (number_line word.now n)) page.new result }
+{
+    if !there {
+        return at;
     }
+    let behind = put_words(page, at, word);
+    let place = put_words(page, behind, b" ");
+    let end = put_decimal(page, place, n);
+    put_words(page, end, b"\n")
+}
 
-    // A word and a number.
-    #[tactic(auto, unfolding(crate::specs::Lines::number_line))]
-    pub fn number_line(&mut self, word: &[u8], n: u64)
-        requires { (length word.now ≤ 16) × (length self.old + 64 ≤ N) }
-        ensures { WroteWithin 64 self.old (number_line word.now n) self.new }
-    {
-        self.words(word);
-        self.words(b" ");
-        self.decimal(n);
-        self.words(b"\n");
+// A word and an id.
+pub fn id_line(page: &mut [u8], at: usize, there: bool, word: &[u8], id: i8) -> usize
+    requires { (length word.now ≤ 16) × (at + 64 ≤ length page.old) }
+    ensures { WroteWithin 64 page.old at (when there (id_line word.now id)) page.new result }
+{
+    if !there {
+        return at;
     }
+    let behind = put_words(page, at, word);
+    let place = put_words(page, behind, b" ");
+    let end = put_id(page, place, id);
+    put_words(page, end, b"\n")
+}
 
-    // A word and an id.
-    #[tactic(auto, unfolding(crate::specs::Lines::id_line))]
-    pub fn id_line(&mut self, word: &[u8], id: i8)
-        requires { (length word.now ≤ 16) × (length self.old + 64 ≤ N) }
-        ensures { WroteWithin 64 self.old (id_line word.now id) self.new }
-    {
-        self.words(word);
-        self.words(b" ");
-        self.id(id);
-        self.words(b"\n");
+// A problem's tag, in hex, and its number.
+pub fn problem_line(page: &mut [u8], at: usize, there: bool, tag: u8, problem: u8) -> usize
+    requires { at + 64 ≤ length page.old }
+    ensures { WroteWithin 64 page.old at (when there (problem_line tag problem)) page.new result }
+{
+    if !there {
+        return at;
     }
-
-    // A problem's tag, in hex, and its number.
-    #[tactic(auto, unfolding(crate::specs::Lines::problem_line))]
-    pub fn problem_line(&mut self, tag: u8, problem: u8)
-        requires { length self.old + 64 ≤ N }
-        ensures { WroteWithin 64 self.old (problem_line tag problem) self.new }
-    {
-        self.words(b"problem ");
-        self.pair(tag);
-        self.words(b" ");
-        self.decimal(problem as u64);
-        self.words(b"\n");
-    }
+    let behind = put_words(page, at, b"problem ");
+    let place = put_pair(page, behind, tag);
+    let blank = put_words(page, place, b" ");
+    let end = put_decimal(page, blank, problem as u64);
+    put_words(page, end, b"\n")
 }

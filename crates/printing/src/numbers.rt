@@ -1,9 +1,38 @@
-// Numbers on a page.
+// Words and numbers at a place of a lent page; each answers the place behind.
 ghost use Rattle.std.specs.Prelude.{◌≡◌, ◌+◌, ◌≤◌, ◌<◌, length};
-ghost use Rattle.printing.specs.Page.{WroteWithin};
+ghost use Rattle.octets.specs.Splice.{splice};
+ghost use Rattle.printing.specs.Lent.{Wrote, WroteWithin};
 ghost use Rattle.printing.specs.Numbers.{decimal, id_text, glyph, pair};
 
-use crate::page::Page;
+pub fn put_words(page: &mut [u8], at: usize, words: &[u8]) -> usize
+    requires { at + length words.now ≤ length page.old }
+    ensures { Wrote page.old at words.now page.new result }
+{
+    octets::put(page, at, words);
+    at + words.len()
+}
+
+pub fn put_decimal(page: &mut [u8], at: usize, n: u64) -> usize
+    requires { at + 20 ≤ length page.old }
+    ensures { WroteWithin 20 page.old at (decimal n) page.new result }
+{
+    let mut digits = [0u8; 20];
+    let count = io::decimal(n, &mut digits);
+    put_words(page, at, &digits[..count])
+}
+
+pub fn put_id(page: &mut [u8], at: usize, id: i8) -> usize
+    requires { at + 21 ≤ length page.old }
+    ensures { WroteWithin 21 page.old at (id_text id) page.new result }
+{
+    let octet = codes::ids::octet_of(id) as u64;
+    if octet < 128 {
+        put_decimal(page, at, octet)
+    } else {
+        let next = put_words(page, at, b"-");
+        put_decimal(page, next, 256 - octet)
+    }
+}
 
 fn glyph_of(d: u8) -> u8
     requires { d < 16 }
@@ -12,36 +41,12 @@ fn glyph_of(d: u8) -> u8
     if d < 10 { 48 + d } else { 55 + d }
 }
 
-impl<const N: usize> Page<N> {
-    pub fn decimal(&mut self, n: u64)
-        requires { length self.old + 20 ≤ N }
-        ensures { WroteWithin 20 self.old (decimal n) self.new }
-    {
-        let mut digits = [0u8; 20];
-        let count = io::decimal(n, &mut digits);
-        self.words(&digits[..count]);
-    }
-
-    #[tactic(auto, unfolding(crate::specs::Numbers::id_text))]
-    pub fn id(&mut self, id: i8)
-        requires { length self.old + 21 ≤ N }
-        ensures { WroteWithin 21 self.old (id_text id) self.new }
-    {
-        let octet = codes::ids::octet_of(id) as u64;
-        if octet < 128 {
-            self.decimal(octet);
-        } else {
-            self.words(b"-");
-            self.decimal(256 - octet);
-        }
-    }
-
-    // An octet as two capital hex digits.
-    #[tactic(auto, unfolding(crate::specs::Numbers::pair))]
-    pub fn pair(&mut self, octet: u8)
-        requires { length self.old + 2 ≤ N }
-        ensures { WroteWithin 2 self.old (pair octet) self.new }
-    {
-        self.words(&[glyph_of(octet / 16), glyph_of(octet % 16)]);
-    }
+// An octet as two capital hex digits.
+#[tactic(auto, unfolding(crate::specs::Numbers::pair))]
+pub fn put_pair(page: &mut [u8], at: usize, octet: u8) -> usize
+    requires { at + 2 ≤ length page.old }
+    ensures writes { page.new ≡ splice page.old at (pair octet) }
+    ensures next { result ≡ at + 2 }
+{
+    put_words(page, at, &[glyph_of(octet / 16), glyph_of(octet % 16)])
 }

@@ -1,9 +1,9 @@
-// Lines of text on a page, a character for each cell.
+// Lines of text, a character for each cell, at a place of a lent page; each answers the place behind.
 ghost use Rattle.std.specs.Prelude.{◌≡◌, ◌+◌, ◌*◌, ◌≤◌, length};
-ghost use Rattle.printing.specs.Page.{WroteWithin};
+ghost use Rattle.printing.specs.Lent.{WroteWithin};
 ghost use Rattle.printing.specs.Utf8.{pictured, utf8, cell_text, row_text, text_rows};
 
-use crate::page::Page;
+use crate::numbers::put_words;
 
 // What is printed for a character: one that would break a line has a picture.
 #[tactic(auto, unfolding(crate::specs::Utf8::pictured))]
@@ -18,60 +18,66 @@ fn picture_of(character: u16) -> u16
     }
 }
 
-impl<const N: usize> Page<N> {
-    // One character as it is printed, in UTF-8.
-    #[tactic(auto, unfolding(crate::specs::Utf8::utf8))]
-    fn character(&mut self, character: u16)
-        requires { length self.old + 3 ≤ N }
-        ensures { WroteWithin 3 self.old (utf8 (pictured character)) self.new }
-    {
-        let c = picture_of(character);
-        if c < 0x80 {
-            self.words(&[c as u8]);
-        } else if c < 0x800 {
-            self.words(&[(0xC0 + c / 64) as u8, (0x80 + c % 64) as u8]);
-        } else {
-            self.words(&[
+// One character as it is printed, in UTF-8.
+#[tactic(auto, unfolding(crate::specs::Utf8::utf8))]
+fn put_character(page: &mut [u8], at: usize, character: u16) -> usize
+    requires { at + 3 ≤ length page.old }
+    ensures { WroteWithin 3 page.old at (utf8 (pictured character)) page.new result }
+{
+    let c = picture_of(character);
+    if c < 0x80 {
+        put_words(page, at, &[c as u8])
+    } else if c < 0x800 {
+        put_words(page, at, &[(0xC0 + c / 64) as u8, (0x80 + c % 64) as u8])
+    } else {
+        put_words(
+            page,
+            at,
+            &[
                 (0xE0 + c / 4096) as u8,
                 (0x80 + c / 64 % 64) as u8,
                 (0x80 + c % 64) as u8,
-            ]);
-        }
+            ],
+        )
     }
+}
 
-    // Characters in a row.
-    fn cells(&mut self, characters: &[u16])
-        requires { length self.old + 3 * length characters.now ≤ N }
-        ensures { WroteWithin (3 * length characters.now) self.old (cell_text characters.now) self.new }
-    {
-        for character in characters {
-            self.character(*character);
-        }
+// Characters in a row.
+fn put_cells(page: &mut [u8], at: usize, characters: &[u16]) -> usize
+    requires { at + 3 * length characters.now ≤ length page.old }
+    ensures { WroteWithin (3 * length characters.now) page.old at (cell_text characters.now) page.new result }
+{
+    let mut place = at;
+    for character in characters {
+        place = put_character(page, place, *character);
     }
+    place
+}
 
-    // One line: its characters, and the line's end.
-    fn row(&mut self, characters: &[u16])
-        requires { length self.old + 3 * length characters.now + 1 ≤ N }
-        ensures { WroteWithin (3 * length characters.now + 1) self.old (row_text characters.now) self.new }
-    {
-        self.cells(characters);
-        self.words(b"\n");
-    }
+// One line: its characters, and the line's end.
+fn put_row(page: &mut [u8], at: usize, characters: &[u16]) -> usize
+    requires { at + 3 * length characters.now + 1 ≤ length page.old }
+    ensures { WroteWithin (3 * length characters.now + 1) page.old at (row_text characters.now) page.new result }
+{
+    let behind = put_cells(page, at, characters);
+    put_words(page, behind, b"\n")
+}
 
-    // A text line by line. Two octets tell a line: its cells, and the space that was dropped behind it.
-    pub fn text_rows(&mut self, text: &[u16], rows: &[u8])
-        requires { length self.old + 3 * length text.now + length rows.now ≤ N }
-        ensures { WroteWithin (3 * length text.now + length rows.now) self.old
-            (text_rows text.now rows.now) self.new }
-    {
-        let mut text = text;
-        let mut rows = rows;
-        while let [cells, dropped, rest @ ..] = rows {
-            let to = (*cells as usize).min(text.len());
-            let next = (*cells as usize + *dropped as usize).min(text.len());
-            self.row(&text[..to]);
-            text = &text[next..];
-            rows = rest;
-        }
+// A text line by line. Two octets tell a line: its cells, and the space that was dropped behind it.
+pub fn text_rows(page: &mut [u8], at: usize, text: &[u16], rows: &[u8]) -> usize
+    requires { at + 3 * length text.now + length rows.now ≤ length page.old }
+    ensures { WroteWithin (3 * length text.now + length rows.now) page.old at
+        (text_rows text.now rows.now) page.new result }
+{
+    let mut place = at;
+    let mut text = text;
+    let mut rows = rows;
+    while let [cells, dropped, rest @ ..] = rows {
+        let to = (*cells as usize).min(text.len());
+        let next = (*cells as usize + *dropped as usize).min(text.len());
+        place = put_row(page, place, &text[..to]);
+        text = &text[next..];
+        rows = rest;
     }
+    place
 }

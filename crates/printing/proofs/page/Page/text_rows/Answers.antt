@@ -1,14 +1,11 @@
+use Prim.Native.Nat.{◌+◌, ◌*◌}
 use native.Mathlib.Omega.{arith}
-use Rattle.printing.proofs.CellLaws.{row_more, short}
-use Rattle.printing.proofs.PageLaws.{ended}
+use lib.ListN.{length}
+use Rattle.printing.specs.Utf8.{text_rows}
+use Rattle.printing.proofs.PageLaws.{appended}
 use Rattle.printing.proofs.page.Page.text_rows.Goals as goal
-
-pub loop-rows-preserved : goal.loop-rows-preserved
-loop-rows-preserved g c =
-    let l = c.loop-rows in
-    row_more l.self _ c.row.new.self l.text.now l.rows.now c.min-to.result c.min-next.result _ c.in-len2-up.len_at_least c.min-to.ensures c.min-next.ensures c.row.ensures l.invariant.0 l.invariant.1
 
 pub returns : goal.returns
 returns g c =
-    let l = c.loop-rows in
-    (ended _ _ _ (short l.text.now l.rows.now (omega (arith, c.in_default.len_below))) l.invariant.0, omega arith)
+    let i = c.self.inside in
+    appended i.octets c.args.self.now i.at (3 * length c.args.text.now + length c.args.rows.now) (text_rows c.args.text.now c.args.rows.now) _ _ (omega (arith, c.self.told, c.self.invariant)) c.self.view_is c.text_rows-self-inside.ensures
