@@ -16,7 +16,7 @@ use Rattle.places.specs.declared.problems.Problem.{Problem}
 use Rattle.places.proofs.Determined.{general-determined, id-determined}
 use Rattle.components.specs.Component.{Component, invoke, result, error, reject, parameter_of}
 use Rattle.components.specs.Facility.{empty, shows}
-use Rattle.components.specs.Seen.{operation_seen, shown_seen, TextTold, parameter_length, kind_seen, KindWithin, unread_seen, UnreadWithin, reading_seen, ReadingWithin}
+use Rattle.components.specs.Seen.{operation_seen, shown_seen, TextTold, parameter_length, kind_seen, KindWithin, unread_seen, UnreadWithin, inside_seen, InsideWithin, reading_seen, ReadingWithin}
 use Rattle.components.specs.declared.shown.Shown.{Shown}
 use Rattle.components.specs.declared.facility.Unread.{Unread}
 
@@ -81,13 +81,19 @@ not_empty (Unread.General p i) e = cc
 not_empty Unread.LeftOver e = cc
 not_empty Unread.FaultyReject e = cc
 
-not-shown : {C : Type 0} {c : Component} (u : Unread) → shows c ≡ unread_seen u → C
-not-shown (Unread.General p i) e = cc
-not-shown Unread.LeftOver e = cc
-not-shown Unread.FaultyReject e = cc
+no-component : {C : Type 0} {c : Component} (u : Unread) → shows c ≡ unread_seen u → C
+no-component (Unread.General p i) e = cc
+no-component Unread.LeftOver e = cc
+no-component Unread.FaultyReject e = cc
 
 pub text-determined : (c : Component) (t u : Option Ussd) → TextTold c t → TextTold c u → t ≡ u
 text-determined c t u a b = ussd-determined (parameter_of c) t u a.1 b.1 (a.0 ∙ sym b.0)
+
+pub inside-determined : (s : List ℕ) (r q : Result Shown Unread) → InsideWithin s r → InsideWithin s q → inside_seen s r ≡ inside_seen s q → r ≡ q
+inside-determined s (Ok x) (Ok y) a b e = ap Ok (shown-determined s x y a b (cc))
+inside-determined s (Ok x) (Err v) a b e = no-component v e
+inside-determined s (Err u) (Ok y) a b e = no-component u (sym e)
+inside-determined s (Err u) (Err v) a b e = ap Err (unread-determined u v a b e)
 
 pub reading-determined : (s : List ℕ) (r q : Result (Option Shown) Unread) → ReadingWithin s r → ReadingWithin s q → reading_seen s r ≡ reading_seen s q → r ≡ q
 reading-determined s (Ok None) (Ok None) a b e = refl
@@ -95,7 +101,7 @@ reading-determined s (Ok None) (Ok (Some y)) a b e = cc
 reading-determined s (Ok None) (Err v) a b e = not_empty v e
 reading-determined s (Ok (Some x)) (Ok None) a b e = cc
 reading-determined s (Ok (Some x)) (Ok (Some y)) a b e = ap (λ (r : Shown). Ok (Some r)) (shown-determined s x y a b (cc))
-reading-determined s (Ok (Some x)) (Err v) a b e = not-shown v e
+reading-determined s (Ok (Some x)) (Err v) a b e = no-component v e
 reading-determined s (Err u) (Ok None) a b e = not_empty u (sym e)
-reading-determined s (Err u) (Ok (Some y)) a b e = not-shown u (sym e)
+reading-determined s (Err u) (Ok (Some y)) a b e = no-component u (sym e)
 reading-determined s (Err u) (Err v) a b e = ap Err (unread-determined u v a b e)

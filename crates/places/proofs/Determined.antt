@@ -1,7 +1,7 @@
 -- The contracts leave one answer: two that say the same of a part, and lie within it, are equal.
 use Prim.Native.Nat.{ℕ, zero, suc, ◌≤◌}
 use mathlib.Core.Path.{◌≡◌, refl, sym, ap, ◌∙◌}
-use mathlib.Core.List.{List}
+use mathlib.Core.List.{List, []}
 use native.Mathlib.Omega.{arith}
 use mathlib.Core.Option.{Option as Maybe}
 use lib.IntN.{ℤ}
@@ -11,7 +11,7 @@ use Rattle.octets.specs.Reader.{Taken}
 use Rattle.octets.proofs.ReaderLaws.{sound-inj}
 use Rattle.places.specs.Places.{InvokePlaces, Coded as CodedParts}
 use Rattle.places.specs.Problems.{number_of, IsGeneral}
-use Rattle.places.specs.Seen.{id_seen, single_seen, SingleWithin, calls_seen, CallsWithin, last_seen, LastWithin, coded_seen, CodedWithin, rejected_seen, RejectedWithin}
+use Rattle.places.specs.Seen.{id_seen, octet_seen, OctetWithin, single_seen, SingleWithin, calls_seen, CallsWithin, last_seen, LastWithin, coded_seen, CodedWithin, rejected_seen, RejectedWithin}
 use Rattle.places.specs.declared.problems.Problem.{Problem}
 use Rattle.places.specs.declared.Single.{Single}
 use Rattle.places.specs.declared.Calls.{Calls}
@@ -53,6 +53,12 @@ id-determined (Some i) (Some j) e = cc
 -- a place is told by what is left behind it
 same_end : (s : List ℕ) (i j : ℕ) → i ≤ length s → j ≤ length s → drop i s ≡ drop j s → i ≡ j
 same_end s i j h k e = omega (arith, simp length-drop at (ap length e))
+
+pub octet-determined : (r q : Result ℕ Problem) → OctetWithin r → OctetWithin q → octet_seen [] r ≡ octet_seen [] q → r ≡ q
+octet-determined (Err p) (Err q) a b e = ap Err (general-determined p q a b (cc))
+octet-determined (Err p) (Ok y) a b e = cc
+octet-determined (Ok x) (Err q) a b e = cc
+octet-determined (Ok x) (Ok y) a b e = ap (λ (h : Taken ℕ). Ok h.value) (sound-inj e)
 
 pub single-determined : (s : List ℕ) (r q : Result Single Problem) → SingleWithin s r → SingleWithin s q → single_seen s r ≡ single_seen s q → r ≡ q
 single-determined s (Err p) (Err q) a b e = ap Err (general-determined p q a b (cc))

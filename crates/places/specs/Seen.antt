@@ -1,9 +1,7 @@
 -- What the code's answers say of the octets that were read, and what is promised of them. A parameter stands last, so it is told by its length.
 use Rattle.std.specs.Prelude.{ℕ, ◌-◌, ◌≤◌, ◌≡◌, List, ℤ, Option, None, Some, Result, Ok, Err, length, drop}
 use Rattle.std.proofs.Math.Option.{Option as Maybe, none, some}
-use Rattle.octets.specs.Part.{between}
 use Rattle.octets.specs.Reader.{Answer, fault, sound, Taken, took}
-use Rattle.elements.specs.declared.Element.{Element}
 use Rattle.places.specs.Places.{octet_in, single, parameter, InvokePlaces, invoke_places, Coded as CodedParts, coded, rejected}
 use Rattle.places.specs.Problems.{number_of, IsGeneral}
 use Rattle.places.specs.declared.problems.Problem.{Problem}
@@ -20,18 +18,19 @@ id_seen (Some id) = some id
 abbrev pub last : ℕ → List ℕ → List ℕ
 last n s = drop (length s - n) s
 
--- the octet of an element that was read, with what stands behind the element
-abbrev pub octet_seen : List ℕ → Element → Result ℕ Problem → Answer (Taken ℕ)
-octet_seen s e (Err p) = fault (number_of p)
-octet_seen s e (Ok octet) = took octet (drop e.end s)
+-- the octet of a place, with what stands behind the element
+abbrev pub octet_seen : List ℕ → Result ℕ Problem → Answer (Taken ℕ)
+octet_seen rest (Err p) = fault (number_of p)
+octet_seen rest (Ok octet) = took octet rest
 
 abbrev pub OctetWithin : Result ℕ Problem → Type 0
 OctetWithin (Err p) = IsGeneral p
 OctetWithin (Ok octet) = Unit {0}
 
-abbrev pub ReadsOctet : ℕ → List ℕ → Element → Result ℕ Problem → Type 0
-ReadsOctet tag s e octet =
-    (octet_seen s e octet ≡ octet_in tag (record { tag = e.tag; contents = between e.start e.end s }) (drop e.end s)) × OctetWithin octet
+-- whatever stands behind it
+abbrev pub ReadsOctet : ℕ → ℕ → List ℕ → Result ℕ Problem → Type 0
+ReadsOctet wanted tag contents octet =
+    ((rest : List ℕ) → octet_seen rest octet ≡ octet_in wanted (record { tag = tag; contents = contents }) rest) × OctetWithin octet
 
 abbrev pub single_seen : List ℕ → Result Single Problem → Answer (Taken ℕ)
 single_seen s (Err p) = fault (number_of p)

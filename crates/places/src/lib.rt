@@ -3,7 +3,7 @@
 
 pub mod problems;
 
-ghost use Rattle.std.specs.Prelude.{◌≡◌, ◌≤◌, length};
+ghost use Rattle.std.specs.Prelude.{◌≡◌};
 ghost use Rattle.places.specs.Seen.{ReadsOctet, ReadsSingle, ReadsCalls, ReadsLast, ReadsCoded, ReadsRejected};
 
 use crate::problems::Problem;
@@ -38,18 +38,17 @@ pub struct Rejected {
     pub end: usize,
 }
 
-// The octet of an element that should have this tag and one octet of contents.
-fn octet_in(s: &[u8], element: Element, tag: u8) -> Result<u8, Problem>
-    requires { (element.start ≤ element.end) × (element.end ≤ length s.now) }
-    ensures { ReadsOctet tag s.now element result }
+// The octet of a place, from the contents of the element under this tag: the tag that is wanted, and one octet.
+fn octet_in(contents: &[u8], tag: u8, wanted: u8) -> Result<u8, Problem>
+    ensures { ReadsOctet wanted tag contents.now result }
 {
-    if element.tag != tag {
+    if tag != wanted {
         return Err(Problem::MistypedComponent);
     }
-    if element.end - element.start != 1 {
+    if contents.len() != 1 {
         return Err(Problem::MistypedComponent);
     }
-    Ok(s[element.start])
+    Ok(contents[0])
 }
 
 // A place of one octet: an id, an operation or an error code.
@@ -58,7 +57,7 @@ pub fn read_single(s: &[u8], tag: u8) -> Result<Single, Problem>
     ensures { ReadsSingle tag s.now result }
 {
     let element = elements::read_element(s)?;
-    let octet = octet_in(s, element, tag)?;
+    let octet = octet_in(&s[element.start..element.end], element.tag, tag)?;
     Ok(Single {
         octet,
         end: element.end,
@@ -87,14 +86,14 @@ pub fn read_calls(s: &[u8]) -> Result<Calls, Problem>
 {
     let first = elements::read_element(s)?;
     if first.tag != 0x80 {
-        let operation = octet_in(s, first, 0x02)?;
+        let operation = octet_in(&s[first.start..first.end], first.tag, 0x02)?;
         return Ok(Calls {
             linked: None,
             operation,
             end: first.end,
         });
     }
-    let linked = octet_in(s, first, 0x80)?;
+    let linked = octet_in(&s[first.start..first.end], first.tag, 0x80)?;
     let operation = read_single(&s[first.end..], 0x02)?;
     Ok(Calls {
         linked: Some(codes::ids::id_of(linked)),
@@ -131,7 +130,7 @@ pub fn read_rejected(s: &[u8]) -> Result<Rejected, Problem>
             end: place.end,
         });
     }
-    let id = octet_in(s, place, 0x02)?;
+    let id = octet_in(&s[place.start..place.end], place.tag, 0x02)?;
     Ok(Rejected {
         id: Some(codes::ids::id_of(id)),
         end: place.end,

@@ -12,8 +12,8 @@ use Rattle.parameters.specs.Suits.{is_ussd, suits, InvokeReceived, ResultReceive
 use Rattle.components.specs.Component.{error}
 use Rattle.elements.proofs.Determined.{length-determined, found-determined}
 use Rattle.parameters.proofs.Determined.{contents-determined, string-determined, ussd-determined}
-use Rattle.places.proofs.Determined.{single-determined, calls-determined, last-determined, coded-determined, rejected-determined}
-use Rattle.components.proofs.Determined.{kind-determined, reading-determined}
+use Rattle.places.proofs.Determined.{octet-determined, single-determined, calls-determined, last-determined, coded-determined, rejected-determined}
+use Rattle.components.proofs.Determined.{kind-determined, inside-determined, reading-determined}
 use Rattle.octets.proofs.Determined.{found-determined as part-determined, read-determined}
 use Rattle.messages.specs.Layout.{mandatory_missing}
 use Rattle.messages.proofs.Determined.{item-determined, type-determined}
@@ -64,11 +64,14 @@ parameters = (
 in-places : InPlaces
 in-places = (
   (λ tag s. by-saying _ _ _ (single-determined s)),
-  ((λ s. by-saying _ _ _ (calls-determined s)), ((λ s. by-saying _ _ _ (coded-determined s)), ((λ s. by-saying _ _ _ (rejected-determined s)), λ s. by-saying _ _ _ (last-determined s)))),
+  ((λ s. by-saying _ _ _ (calls-determined s)), ((λ s. by-saying _ _ _ (coded-determined s)), ((λ s. by-saying _ _ _ (rejected-determined s)), ((λ s. by-saying _ _ _ (last-determined s)), λ wanted tag contents r q e f. octet-determined r q e.1 f.1 (e.0 [] ∙ sym (f.0 [])))))),
 )
 
 components : Components
-components = (λ definition s. by-saying _ _ _ (kind-determined s), λ definition s. by-saying _ _ _ (reading-determined s))
+components = (
+  (λ definition s. by-saying _ _ _ (kind-determined s)),
+  ((λ definition s. by-saying _ _ _ (reading-determined s)), λ definition s. by-saying _ _ _ (inside-determined s)),
+)
 
 messages : Messages
 messages = (

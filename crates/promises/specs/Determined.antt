@@ -5,10 +5,10 @@ use Rattle.octets.specs.OneAnswer.{OneAnswer}
 use Rattle.octets.specs.Reader.{Answer}
 use Rattle.elements.specs.Found.{ReadsLength, ReadsElement}
 use Rattle.parameters.specs.Seen.{ReadsContents, ReadsString, ReadsUssdContents, ReadsUssd, TellsText, TellsInvoke, TellsResult}
-use Rattle.places.specs.Seen.{ReadsSingle, ReadsCalls, ReadsLast, ReadsCoded, ReadsRejected}
+use Rattle.places.specs.Seen.{ReadsOctet, ReadsSingle, ReadsCalls, ReadsLast, ReadsCoded, ReadsRejected}
 use Rattle.components.specs.Component.{Component}
 use Rattle.components.specs.Facility.{Finding}
-use Rattle.components.specs.Seen.{ReadsKind, ReadsFinding}
+use Rattle.components.specs.Seen.{ReadsKind, ReadsInside, ReadsFinding}
 use Rattle.messages.specs.Types.{TellsType}
 use Rattle.messages.specs.Seen.{ReadsItem, ReadsSized, ReadsMandatory, ReadsRequired, FindsFirst}
 use Rattle.table.specs.Raw.{ReadsEntry}
@@ -39,11 +39,13 @@ InPlaces =
     ((tag : ℕ) (s : List ℕ) → OneAnswer (ReadsSingle tag s))
     × (((s : List ℕ) → OneAnswer (ReadsCalls s))
     × (((s : List ℕ) → OneAnswer (ReadsCoded s))
-    × (((s : List ℕ) → OneAnswer (ReadsRejected s)) × ((s : List ℕ) → OneAnswer (ReadsLast s)))))
+    × (((s : List ℕ) → OneAnswer (ReadsRejected s))
+    × (((s : List ℕ) → OneAnswer (ReadsLast s)) × ((wanted tag : ℕ) (contents : List ℕ) → OneAnswer (ReadsOctet wanted tag contents))))))
 
 abbrev pub Components : Type 0
 Components =
-    ((definition : Answer Component) (s : List ℕ) → OneAnswer (ReadsKind definition s)) × ((definition : Finding) (s : List ℕ) → OneAnswer (ReadsFinding definition s))
+    ((definition : Answer Component) (s : List ℕ) → OneAnswer (ReadsKind definition s))
+    × (((definition : Finding) (s : List ℕ) → OneAnswer (ReadsFinding definition s)) × ((definition : Finding) (s : List ℕ) → OneAnswer (ReadsInside definition s)))
 
 abbrev pub Messages : Type 0
 Messages =
