@@ -1,18 +1,19 @@
--- Parameters: what was read stays with a longer tail, and where a text stands in its parameter.
+-- Parameters: what was read stays with a longer tail, where a text stands in it, and what the code's answers tell of the definitions.
 use Prim.Native.Nat.{ℕ}
 use mathlib.Core.Path.{◌≡◌, refl, sym, ap, ◌∙◌, subst}
 use mathlib.Core.List.{List, [], ◌++◌, append-nil, append_assoc}
-use mathlib.Core.Bool.{true, false, ◌&&◌}
+use mathlib.Core.Bool.{Bool, true, false, ◌&&◌}
 use lib.ListN.{length, get_or}
 use lib.Dec.{leb, eqb}
 use borrow.Author.Tests.{eq-eqb}
-use Rattle.octets.specs.Reader.{sound, Taken, took, alone}
-use Rattle.octets.proofs.ReaderLaws.{sound-inj, through, passed, IsLocal, done-local, seq-local, need-local, stays, alone-is}
+use Rattle.octets.specs.Reader.{Answer, fault, sound, Taken, took, alone}
+use Rattle.octets.proofs.ReaderLaws.{sound-inj, not_sound, through, passed, IsLocal, done-local, seq-local, need-local, stays, alone-is}
 use Rattle.octets.proofs.EndLaws.{Ends, further-ends}
 use Rattle.elements.specs.Element.{refused_tag, element, row, written}
 use Rattle.elements.proofs.ElementLaws.{element-local, element-ends, alone-ends, written-reads-back}
 use Rattle.elements.proofs.RowLaws.{row-append}
-use Rattle.parameters.specs.Parameter.{mistyped, holding, string, Text, text, ussd_contents, ussd}
+use Rattle.parameters.specs.Parameter.{mistyped, is_sound, holding, string, Text, text, ussd_contents, ussd, contents_are}
+use Rattle.parameters.specs.Seen.{refusal}
 
 pub string-local : (low high : ℕ) → IsLocal (string low high)
 unfolding string
@@ -53,6 +54,27 @@ ussd-more p c x g q e h = rw (written-holds 0x30 (c ++ x) refl) (ussd-contents-m
 pub ussd-held : (p : List ℕ) (g : Taken Text) → ussd p ≡ sound g → (c : List ℕ) × (holding 0x30 p ≡ sound c) × (ussd_contents c ≡ sound g)
 unfolding ussd
 ussd-held p g e = through (holding 0x30 p) ussd_contents g e λ c q r. (c, q, r)
+
+-- a sound answer of the code is the definition's
+pub told-sound : {A : Type 0} (o : Answer A) (a : A) → sound a ≡ refusal o → o ≡ sound a
+told-sound (fault n) a e = not_sound (sym e)
+told-sound (sound b) a e = sym e
+
+-- a refusal of the code is a fault of the definition
+pub told-fault : {A C : Type 0} (o : Answer A) → fault mistyped ≡ refusal o → ((n : ℕ) → o ≡ fault n → C) → C
+told-fault (fault n) e next = next n refl
+told-fault (sound a) e next = not_sound e
+
+-- what does not look at the fault's number says the same of the code's answer and of the definition
+pub told : {A B : Type 0} (f : Answer A → B) → ((n : ℕ) → f (fault mistyped) ≡ f (fault n)) → (o q : Answer A) → q ≡ refusal o → f q ≡ f o
+told f h (fault n) q e = ap f e ∙ h n
+told f h (sound a) q e = ap f e
+
+pub told-is_sound : {A : Type 0} (o q : Answer A) → q ≡ refusal o → is_sound q ≡ is_sound o
+told-is_sound = told is_sound (λ n. refl)
+
+pub told-inside : (test : List ℕ → Bool) (o q : Answer (List ℕ)) → q ≡ refusal o → contents_are q test ≡ contents_are o test
+told-inside test = told (λ o. contents_are o test) (λ n. refl)
 
 -- a text stands at the end of its parameter, the tail at the end of the text
 string-ends : (low high : ℕ) (s : List ℕ) (g : Taken (List ℕ)) → string low high s ≡ sound g → Ends (g.value ++ g.rest) s

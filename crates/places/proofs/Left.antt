@@ -1,4 +1,4 @@
--- What is left behind a place, and the parameter as the last octets.
+-- What is left behind a place, the parameter as the last octets, and a place where no element stands.
 use Prim.Native.Nat.{ℕ, ◌+◌, ◌-◌, ◌≤◌}
 use mathlib.Core.Path.{◌≡◌, refl, ap, ◌∙◌}
 use mathlib.Core.List.{List, [], ◌∷◌}
@@ -6,18 +6,39 @@ use native.Mathlib.Omega.{arith}
 use lib.ListN.{length, take, drop, length-take, length-drop}
 use lib.Seq.{drop-drop}
 use Rattle.octets.specs.Part.{between}
-use Rattle.octets.specs.Reader.{is_empty}
+use Rattle.octets.specs.Reader.{fault, is_empty}
 use Rattle.octets.proofs.PartLaws.{from-taken}
+use Rattle.elements.specs.Element.{element}
+use Rattle.elements.specs.Found.{seen}
+use Rattle.elements.specs.declared.Fault.{Fault}
+use Rattle.places.specs.Problems.{number_of, problem_of}
 use Rattle.places.specs.Seen.{last}
-use mathlib.Core.Bool.{false}
+use Rattle.std.specs.Prelude.{Err}
+use mathlib.Core.Bool.{true, false}
 
--- what is left before the end of a part is something
+-- where no whole element stands, the problem that the code hands on has the fault's number
+pub problem-is : (f : Fault) (s : List ℕ) → seen s (Err f) ≡ element s → fault (number_of (problem_of f)) ≡ element s
+problem-is Fault.Missing s e = e
+problem-is Fault.Unreadable s e = e
+
+pub nothing_left : (s : List ℕ) → length s ≡ 0 → is_empty s ≡ true
+nothing_left [] e = refl
+nothing_left (a ∷ s) e = absurd (omega arith)
+
+pub something-left : (s : List ℕ) → (length s ≡ 0 → ⊥) → is_empty s ≡ false
+something-left [] e = absurd (e refl)
+something-left (a ∷ s) e = refl
+
+-- what is left behind a place: nothing at the end, something before it
+pub left-none : (s : List ℕ) (e : ℕ) → e ≡ length s → is_empty (drop e s) ≡ true
+left-none s e h = nothing_left (drop e s) (simp length-drop (omega arith))
+
 pub left_some : (s : List ℕ) (e : ℕ) → e ≤ length s → (e ≡ length s → ⊥) → is_empty (drop e s) ≡ false
-left_some s e l h = some (drop e s) (λ z. h (omega (arith, simp length-drop at z)))
-  where
-    some : (r : List ℕ) → (length r ≡ 0 → ⊥) → is_empty r ≡ false
-    some [] z = absurd (z refl)
-    some (a ∷ r) z = refl
+left_some s e l h = something-left (drop e s) (λ z. h (omega (arith, simp length-drop at z)))
+
+-- the parameter behind a place is the last octets
+pub last-is : (s : List ℕ) (e : ℕ) → e ≤ length s → last (length s - e) s ≡ drop e s
+last-is s e l = let h : length s - (length s - e) ≡ e = omega arith in rw h
 
 -- the last octets of a part that goes on to the end
 pub last_end : (s : List ℕ) (a n : ℕ) → a ≤ length s → n ≤ length (drop a s) → last n (drop a s) ≡ last n s

@@ -129,8 +129,9 @@ counting-step n s g e = rw (messages-step s g e) (go (messages_in g.rest))
     go (fault k) = refl
     go (sound row) = let z : n + suc (length row) ≡ n + 1 + length row = omega arith in ap sound z
 
-pub counting-last : (n : ℕ) → counting n (messages_in []) ≡ sound n
-counting-last n = rw messages-none (let z : n + 0 ≡ n = omega arith in ap sound z)
+pub counting-last : (n : ℕ) (s : List ℕ) → length s ≤ 0 → counting n (messages_in s) ≡ sound n
+counting-last n [] h = rw messages-none (let z : n + 0 ≡ n = omega arith in ap sound z)
+counting-last n (a ∷ s) h = absurd (omega arith)
 
 -- where octets are left and all are records, the first of them is one
 pub first-is : (s : List ℕ) (row : List (List ℕ)) → 0 < length s → messages_in s ≡ sound row → (g : Taken (List ℕ)) × (one_record s ≡ sound g)

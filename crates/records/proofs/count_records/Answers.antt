@@ -1,5 +1,6 @@
 use native.Mathlib.Omega.{arith}
 use mathlib.Core.Path.{sym, ◌∙◌}
+use mathlib.Core.List.{[]}
 use lib.ListN.{length-drop}
 use Rattle.octets.proofs.PartLaws.{rest_part_lem, left_over, none_left}
 use Rattle.records.specs.Records.{bad_record}
@@ -23,4 +24,4 @@ loop-rest-preserved c =
     (omega (arith, w.1.0, w.1.1), sym (counting-step c.loop-rest.n r _ (sym e)) ∙ c.loop-rest.invariant.1)
 
 pub returns : goal.returns
-returns c = sym (counting-last c.loop-rest.n) ∙ (rw (none_left _ c.loop-rest-test.ensures) at c.loop-rest.invariant.1)
+returns c = sym (counting-last c.loop-rest.n [] (omega arith)) ∙ (rw (none_left _ c.loop-rest-test.ensures) at c.loop-rest.invariant.1)
