@@ -126,6 +126,25 @@ unfolding operation_of among
 operation-none id [] h = refl
 operation-none id (w ∷ ws) h = none-step (same_id w.id id) (among id ws) w.operation (operation_of id ws) h (operation-none id ws)
 
+-- no operation that waits is 0
+used_step : (b z : Bool) (o n : ℕ) → eqb o 0 ≡ false → eqb n 0 ≡ not z → eqb (cond b o n) 0 ≡ not (b || z)
+used_step true z o n p q = p
+used_step false z o n p q = q
+
+used-side : (id : ℤ) (w : Waiting) (ws : List Waiting) (b : Bool) → eqb w.operation 0 ≡ b → eqb (operation_of id ws) 0 ≡ not (among id ws)
+    → eqb (operation_of id (cond {A = List Waiting} b [] (w ∷ ws))) 0 ≡ not (among id (cond {A = List Waiting} b [] (w ∷ ws)))
+unfolding operation_of among
+used-side id w ws true e h = refl
+used-side id w ws false e h = used_step (same_id w.id id) (among id ws) w.operation (operation_of id ws) e h
+
+used-in : (id : ℤ) (n side : ℕ) → eqb (operation_of id (side_of (octets_in n side))) 0 ≡ not (among id (side_of (octets_in n side)))
+unfolding side_of operation_of among
+used-in id zero side = refl
+used-in id (suc n) side = used-side id (first_of side) (side_of (octets_in n (side / 65536))) (eqb (side / 256 % 256) 0) refl (used-in id n (side / 65536))
+
+pub used-told : (id : ℤ) (side : ℕ) → eqb (operation_of id (side_seen side)) 0 ≡ not (among id (side_seen side))
+used-told id side = used-in id 4 side
+
 -- one that is among them has a place
 less-step : (b z : Bool) (i n : ℕ) → (b || z) ≡ true → (z ≡ true → i < n) → cond b 0 (suc i) < suc n
 less-step true z i n e h = omega arith

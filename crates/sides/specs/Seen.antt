@@ -2,7 +2,7 @@
 use Rattle.std.specs.Prelude.{ℕ, zero, suc, ◌+◌, ◌*◌, ◌/◌, ◌%◌, List, [], ◌∷◌, ◌≡◌, Bool, true, false, cond, ◌||◌, Option, None, Some, ℤ, length, eqb}
 use Rattle.codes.specs.Ids.{octet_of}
 use Rattle.codes.specs.Operations.{begins, waits}
-use Rattle.sides.specs.Side.{Waiting, places, same_id, among, full, side_of, side_octets}
+use Rattle.sides.specs.Side.{Waiting, places, same_id, among, full, operation_of, side_of, side_octets}
 use Rattle.sides.specs.declared.Found.{Found}
 
 -- the octets of n places
@@ -51,6 +51,10 @@ found_in id side = cond (among id (side_seen side)) (Some (place_of id side)) No
 abbrev pub number_or0 : Option ℕ → ℕ
 number_or0 None = 0
 number_or0 (Some n) = n
+
+-- the operation that waits under an id, where one does
+abbrev pub asked_in : ℤ → List Waiting → Option ℕ
+asked_in id ws = cond (among id ws) (Some (operation_of id ws)) None
 
 -- an invoke put behind the last that waits; nothing is added where there is no place, or no operation
 abbrev pub with_last : ℕ → ℤ → ℕ → ℕ

@@ -2,10 +2,10 @@
 // number, the first lowest: the loops walk down that number, as there is no slice to walk.
 #![tactic(auto)]
 
-ghost use Rattle.std.specs.Prelude.{◌≡◌, ◌/◌, ◌%◌, ◌<◌, ◌≤◌, length};
+ghost use Rattle.std.specs.Prelude.{◌≡◌, ◌/◌, ◌%◌, ◌<◌, ◌≤◌, not, eqb, length};
 ghost use Rattle.std.specs.Option.{is_some};
 ghost use Rattle.sides.specs.Side.{places, among, full, operation_of, is_empty, sound_side};
-ghost use Rattle.sides.specs.Seen.{octets_seen, side_seen, listed_for, joined_at, found_in, number_or0, with_last, without_id};
+ghost use Rattle.sides.specs.Seen.{octets_seen, side_seen, listed_for, joined_at, found_in, asked_in, number_or0, with_last, without_id};
 
 // Where an id stands: how many places stand before it, and the places from it on.
 #[derive(Clone, Copy)]
@@ -61,7 +61,9 @@ fn find(id: i8, side: u64) -> Option<Found>
 
 // The operation that waits under this id.
 pub fn operation_of(id: i8, side: u64) -> Option<u8>
+    ensures asked { result ≡ asked_in id (side_seen side) }
     ensures value { number_or0 result ≡ operation_of id (side_seen side) }
+    ensures result_value { eqb (number_or0 result) 0 ≡ not (among id (side_seen side)) }
     ensures there { is_some result ≡ among id (side_seen side) }
 {
     let found = find(id, side)?;
