@@ -210,9 +210,9 @@ fn release(s: &[u8], told: Option<Told>) -> Decision
 
 // A Facility value that steps 2 to 4 leave to be weighed; that of a RELEASE COMPLETE is only shown.
 #[derive(Clone, Copy)]
-struct Course {
-    value: Span,
-    release: bool,
+pub struct Course {
+    pub value: Span,
+    pub release: bool,
 }
 
 // Step 4: the mandatory part and what must be understood, for REGISTER and FACILITY.

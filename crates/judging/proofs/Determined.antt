@@ -4,6 +4,7 @@ use mathlib.Core.Bool.{cond}
 use Prim.Native.Nat.{ℕ}
 use lib.Dec.{eqb}
 use Rattle.std.specs.Prelude.{Result, Ok, Err}
+use Rattle.std.proofs.Math.Option.{some}
 use Rattle.codes.specs.Problems.{general_problem, result_problem, error_problem}
 use Rattle.places.specs.Problems.{tag_of, number_of}
 use Rattle.places.specs.declared.problems.Problem.{Problem}
@@ -12,7 +13,7 @@ use Rattle.components.proofs.Determined.{text-determined}
 use Rattle.table.specs.Change.{Change}
 use Rattle.table.proofs.Determined.{change-determined}
 use Rattle.judging.specs.StepSix.{problem, accepted}
-use Rattle.judging.specs.Seen.{judgement_seen, JudgementText}
+use Rattle.judging.specs.Seen.{judgement_seen, JudgementText, linked_seen, LinkedWithin}
 use Rattle.judging.specs.declared.Accepted.{Accepted}
 
 -- a problem is told by its tag and its number
@@ -75,3 +76,12 @@ judgement-determined c (Ok x) (Ok y) a b e =
     let f = change-determined x.change y.change (accepted-inj e) in
     let g = text-determined c x.text y.text a b in
     λ n. Ok (record { change = f n; text = g n })
+
+linked-inj : {n m : ℕ} → some n ≡ some m → n ≡ m
+linked-inj e = cc
+
+pub linked-determined : (r q : Result (Unit {0}) Problem) → LinkedWithin r → LinkedWithin q → linked_seen r ≡ linked_seen q → r ≡ q
+linked-determined (Ok x) (Ok y) a b e = refl
+linked-determined (Ok x) (Err q) a b e = cc
+linked-determined (Err p) (Ok y) a b e = cc
+linked-determined (Err p) (Err q) a b e = ap Err (problem-determined p q (a ∙ sym b) (linked-inj e))

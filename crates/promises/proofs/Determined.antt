@@ -18,7 +18,7 @@ use Rattle.octets.proofs.Determined.{found-determined as part-determined, read-d
 use Rattle.messages.specs.Layout.{mandatory_missing}
 use Rattle.messages.proofs.Determined.{item-determined, type-determined}
 use Rattle.table.proofs.Determined.{named-determined}
-use Rattle.judging.proofs.Determined.{judgement-determined}
+use Rattle.judging.proofs.Determined.{judgement-determined, linked-determined}
 use Rattle.deciding.proofs.Determined.{decision-determined}
 use Rattle.records.proofs.Determined.{record-determined, count-determined}
 use Rattle.calling.proofs.Determined.{call-determined}
@@ -95,7 +95,10 @@ transactions = (
     (λ table. by-meaning _ _ named-determined),
     (
       (λ flag value. by-meaning _ _ named-determined),
-      ((λ definition c. by-saying _ _ _ (judgement-determined c)), λ definition id code r q e f. judgement-determined (error id code []) r q (e.1 []) (f.1 []) (e.0 ∙ sym f.0)),
+      (
+        (λ definition c. by-saying _ _ _ (judgement-determined c)),
+        ((λ definition id code r q e f. judgement-determined (error id code []) r q (e.1 []) (f.1 []) (e.0 ∙ sym f.0)), λ definition. by-saying _ _ _ linked-determined),
+      ),
     ),
   ),
 )

@@ -1,6 +1,7 @@
 -- 01, "How much the promises say": "from it, equal inputs are proved to give equal outcomes". Each promise is the one that the
 -- function's contract cites.
 use Rattle.std.specs.Prelude.{ℕ, ◌≡◌, List, Option, ℤ}
+use Rattle.std.proofs.Math.Option.{Option as Maybe}
 use Rattle.octets.specs.OneAnswer.{OneAnswer}
 use Rattle.octets.specs.Reader.{Answer}
 use Rattle.elements.specs.Found.{ReadsLength, ReadsElement}
@@ -14,7 +15,7 @@ use Rattle.messages.specs.Seen.{ReadsItem, ReadsSized, ReadsMandatory, ReadsRequ
 use Rattle.table.specs.Raw.{ReadsEntry}
 use Rattle.table.specs.Seen.{FindsClosed, NamesEntry}
 use Rattle.judging.specs.StepSix.{Judged}
-use Rattle.judging.specs.Seen.{Judges, JudgesError}
+use Rattle.judging.specs.Seen.{Judges, JudgesError, JudgesLinked}
 use Rattle.deciding.specs.Decision.{Decision}
 use Rattle.deciding.specs.Seen.{Decides}
 use Rattle.records.specs.Records.{counted}
@@ -61,7 +62,8 @@ Transactions =
     × (((table : List ℕ) → OneAnswer (FindsClosed table))
     × (((flag value : ℕ) → OneAnswer (NamesEntry flag value))
     × (((definition : Judged) (c : Component) → OneAnswer (Judges definition c))
-    × ((definition : Judged) (id : ℤ) (code : ℕ) → OneAnswer (JudgesError definition id code)))))
+    × (((definition : Judged) (id : ℤ) (code : ℕ) → OneAnswer (JudgesError definition id code))
+    × ((definition : Maybe ℕ) → OneAnswer (JudgesLinked definition))))))
 
 abbrev pub Decisions : Type 0
 Decisions =

@@ -1,6 +1,6 @@
 -- What the definitions of the calls and of salvage say on each path through the code.
 use Rattle.std.specs.Prelude.{Ok, Err}
-use Rattle.std.proofs.Common.{◌≡◌, ℕ, ◌+◌, ◌/◌, ◌%◌, ◌<◌, ◌≤◌, Bool, true, false, cond, eqb, List, [], ◌++◌, length, refl, sym, ap, ◌∙◌, arith, eq-eqb, ne_eqb, le-leb}
+use Rattle.std.proofs.Common.{◌≡◌, ℕ, ◌+◌, ◌/◌, ◌%◌, ◌<◌, ◌≤◌, Bool, true, false, cond, eqb, List, [], ◌++◌, length, refl, ap, ◌∙◌, arith, eq-eqb, ne_eqb, le-leb}
 use borrow.Author.Tests.{lt-leb}
 use Rattle.octets.specs.Part.{between}
 use Rattle.octets.specs.Reader.{Answer, fault, sound, and_then, check}
@@ -11,7 +11,7 @@ use Rattle.trace.specs.Blocks.{short_block, wrong_number, records_at, number_in,
 use Rattle.trace.specs.Calls.{refused_by, done, begin_answer, begin_leaves, add_answer, with_record, add_leaves}
 use Rattle.trace.specs.Steps.{next_number, wrote, holds, hands_over}
 use Rattle.trace.specs.Salvage.{fate_by, fate_of, renumbered}
-use Rattle.trace.specs.Faults.{number_of, fault_named}
+use Rattle.trace.specs.Faults.{number_of}
 use Rattle.trace.specs.declared.faults.Fault.{Fault}
 use Rattle.trace.specs.Seen.{mended}
 use Rattle.trace.specs.declared.Fate.{Fate}

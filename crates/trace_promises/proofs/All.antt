@@ -9,6 +9,7 @@ use Rattle.trace_promises.proofs.Programs.{reader-shows, salvage-gives, writer-w
 use Rattle.trace_promises.proofs.Retold.{retold}
 use Rattle.trace_promises.proofs.Gathered.{gathers, taken_as}
 use Rattle.trace_promises.proofs.Cases.{cases}
+use Rattle.trace_promises.proofs.Determined.{determined}
 
 pub all : All
-all = (all_blocks, (in_order_lem, (first-fault, (reads-back, (few-blocks, (opens-late, (whole-stays, (reads-mended, (settles, (each-block, (calls-build, (writer-builds, (reader-shows, (salvage-gives, (writer-writes, (retold, (gathers, (taken_as, cases))))))))))))))))))
+all = (all_blocks, (in_order_lem, (first-fault, (reads-back, (few-blocks, (opens-late, (whole-stays, (reads-mended, (settles, (each-block, (calls-build, (writer-builds, (reader-shows, (salvage-gives, (writer-writes, (retold, (gathers, (taken_as, (cases, determined)))))))))))))))))))

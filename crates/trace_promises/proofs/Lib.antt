@@ -14,4 +14,5 @@ mod LinesBack
 pub mod Retold
 pub mod Gathered
 pub mod Cases
+pub mod Determined
 pub mod All

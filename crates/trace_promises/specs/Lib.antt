@@ -7,4 +7,5 @@ pub mod Programs
 pub mod Retold
 pub mod Gathered
 pub mod Cases
+pub mod Determined
 pub mod All
