@@ -13,37 +13,37 @@ use Rattle.words.specs.declared.Ending.TheVariants.{Whole, Wrong, Long}
 
 -- at the end of the text
 module _ (room half : ℕ) (t : List ℕ) (i : ℕ) (h : length t ≤ i) where
-  hex-whole : half ≡ 16 → hex_from room half (drop i t) ≡ stop Whole
+  pub hex-whole : half ≡ 16 → hex_from room half (drop i t) ≡ stop Whole
   unfolding hex_from
   hex-whole e = rw (drop_of_length-le t h, eq-eqb half 16 e)
 
-  hex-odd : (half ≡ 16 → ⊥) → hex_from room half (drop i t) ≡ stop Wrong
+  pub hex-odd : (half ≡ 16 → ⊥) → hex_from room half (drop i t) ≡ stop Wrong
   unfolding hex_from
   hex-odd e = rw (drop_of_length-le t h, ne_eqb half 16 e)
 
 -- before it, at an octet whose value as a digit is d
 module _ (room half : ℕ) (t : List ℕ) (i : ℕ) (h : i < length t) (d : ℕ) (q : d ≡ digit_of (get_or t i 0)) where
-  hex-torn : blank (get_or t i 0) ≡ true → (half ≡ 16 → ⊥) → hex_from room half (drop i t) ≡ stop Wrong
+  pub hex-torn : blank (get_or t i 0) ≡ true → (half ≡ 16 → ⊥) → hex_from room half (drop i t) ≡ stop Wrong
   unfolding hex_from
   hex-torn b e = rw (drop-cons t i 0 h, b, ne_eqb half 16 e)
 
-  hex-blank : blank (get_or t i 0) ≡ true → half ≡ 16 → hex_from room half (drop i t) ≡ hex_from room half (drop (i + 1) t)
+  pub hex-blank : blank (get_or t i 0) ≡ true → half ≡ 16 → hex_from room half (drop i t) ≡ hex_from room half (drop (i + 1) t)
   unfolding hex_from
   hex-blank b e = rw (e, add-one i, drop-cons t i 0 h, b)
 
-  hex-no-digit : blank (get_or t i 0) ≡ false → d ≡ 16 → hex_from room half (drop i t) ≡ stop Wrong
+  pub hex-no-digit : blank (get_or t i 0) ≡ false → d ≡ 16 → hex_from room half (drop i t) ≡ stop Wrong
   unfolding hex_from
   hex-no-digit b e = rw (drop-cons t i 0 h, b, ← q, eq-eqb d 16 e)
 
-  hex-first : blank (get_or t i 0) ≡ false → (d ≡ 16 → ⊥) → half ≡ 16 → hex_from room half (drop i t) ≡ hex_from room d (drop (i + 1) t)
+  pub hex-first : blank (get_or t i 0) ≡ false → (d ≡ 16 → ⊥) → half ≡ 16 → hex_from room half (drop i t) ≡ hex_from room d (drop (i + 1) t)
   unfolding hex_from
   hex-first b e f = rw (add-one i, drop-cons t i 0 h, b, ← q, ne_eqb d 16 e, eq-eqb half 16 f)
 
-  hex-long : blank (get_or t i 0) ≡ false → (d ≡ 16 → ⊥) → (half ≡ 16 → ⊥) → room ≡ 0 → hex_from room half (drop i t) ≡ stop Long
+  pub hex-long : blank (get_or t i 0) ≡ false → (d ≡ 16 → ⊥) → (half ≡ 16 → ⊥) → room ≡ 0 → hex_from room half (drop i t) ≡ stop Long
   unfolding hex_from
   hex-long b e f g = rw (drop-cons t i 0 h, b, ← q, ne_eqb d 16 e, ne_eqb half 16 f, eq-eqb room 0 g)
 
-  hex-second : blank (get_or t i 0) ≡ false → (d ≡ 16 → ⊥) → (half ≡ 16 → ⊥) → (room ≡ 0 → ⊥)
+  pub hex-second : blank (get_or t i 0) ≡ false → (d ≡ 16 → ⊥) → (half ≡ 16 → ⊥) → (room ≡ 0 → ⊥)
       → hex_from room half (drop i t) ≡ before (half * 16 + d) (hex_from (room - 1) 16 (drop (i + 1) t))
   unfolding hex_from
   hex-second b e f g = rw (add-one i, drop-cons t i 0 h, b, ← q, ne_eqb d 16 e, ne_eqb half 16 f, ne_eqb room 0 g)
@@ -65,12 +65,12 @@ Coming first whole b n rest =
     × (rest.ends ≡ whole.ends)
 
 module _ (first : List ℕ) (whole : HexOctets) (b : List ℕ) (n : ℕ) where
-  coming-none : (e : Ending) → Coming first whole b n (stop e)
+  pub coming-none : (e : Ending) → Coming first whole b n (stop e)
       → (n ≡ length whole.octets) × ((e ≡ whole.ends) × ((b ≡ splice first 0 whole.octets) × (n ≤ length first)))
   unfolding splice
   coming-none e l = (omega (arith, l.3), (l.4, (paste-zero b n [] ∙ l.2, l.0)))
 
-  coming-next : (o : ℕ) (rest : HexOctets) → n < length first → Coming first whole b n (before o rest) → Coming first whole (set b n o) (n + 1) rest
+  pub coming-next : (o : ℕ) (rest : HexOctets) → n < length first → Coming first whole b n (before o rest) → Coming first whole (set b n o) (n + 1) rest
   coming-next o rest h l =
       (omega arith, length-set b n o ∙ l.1, splice-set b n o rest.octets (omega (arith, l.1)) ∙ l.2, omega (arith, l.3), l.4)
 

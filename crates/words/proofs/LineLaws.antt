@@ -8,9 +8,9 @@ use Rattle.std.proofs.lemmas.List.Sums.{prefix_len-le-length}
 use native.Mathlib.Numerals.{add-one}
 use native.Mathlib.Omega.{arith}
 use lib.ListN.{length, drop, length-drop}
-use lib.Seq.{length-take-le}
+use lib.Seq.{length-take-le, drop-drop}
 use lib.Dec.{eqb, ltb}
-use borrow.Author.Tests.{lt-ltb, le-ltb, ltb-true}
+use borrow.Author.Tests.{lt-ltb, le-ltb, ltb-true, ltb-false}
 use Rattle.octets.specs.Part.{between}
 use Rattle.octets.proofs.PartLaws.{rest_part_lem}
 use Rattle.octets.specs.Splice.{splice}
@@ -88,3 +88,41 @@ module _ (s line more : List ℕ) (from have end next : ℕ) (h : from ≤ lengt
   gather-on after l a =
       let t : ltb 16384 (have + length (piece s from)) ≡ false = le-ltb 16384 (have + length (piece s from)) (rw (← more-is) l) in
       (gathered-is (have + length more) (rw (t, more-is)), (rw t (a ∙ ap (λ (x : List ℕ). splice line have x) more-is), (next-within, omega arith)))
+
+-- over what is left of the input: the same is gathered as from that place of the whole, and the same is left behind it
+
+within-left : (from p n left : ℕ) → left ≡ n - from → (b : Bool) → ltb (from + p) n ≡ b → ltb (0 + p) left ≡ b
+within-left from p n left e true t = let l = ltb-true (from + p) n t in lt-ltb (0 + p) left (omega arith)
+within-left from p n left e false t = let l = ltb-false (from + p) n t in le-ltb (0 + p) left (omega arith)
+
+next-left : (from p : ℕ) (b : Bool) → from + cond b (suc (0 + p)) (0 + p) ≡ cond b (suc (from + p)) (from + p)
+next-left from p true = omega arith
+next-left from p false = omega arith
+
+module _ (input : List ℕ) (from : ℕ) where
+  pub piece-left : piece (drop from input) 0 ≡ piece input from
+  unfolding piece
+  piece-left = refl
+
+  pub some-left : ltb 0 (length (drop from input)) ≡ ltb from (length input)
+  some-left =
+      let w = within-left from 0 (length input) (length (drop from input)) (length-drop from input) (ltb (from + 0) (length input)) refl in
+      let e : from + 0 ≡ from = omega arith in
+      w ∙ ap (λ (n : ℕ). ltb n (length input)) e
+
+  module _ (have : ℕ) where
+    whole-left : ltb (0 + length (piece input from)) (length (drop from input)) ≡ ltb (from + length (piece input from)) (length input)
+    whole-left =
+        within-left from (length (piece input from)) (length input) (length (drop from input)) (length-drop from input)
+        (ltb (from + length (piece input from)) (length input)) refl
+
+    pub gathered-left : (from + (gathered (drop from input) 0 have).next ≡ (gathered input from have).next)
+        × (((gathered (drop from input) 0 have).have ≡ (gathered input from have).have)
+        × ((gathered (drop from input) 0 have).is_whole ≡ (gathered input from have).is_whole))
+    unfolding gathered
+    gathered-left =
+        rw (piece-left, whole-left)
+        (next-left from (length (piece input from)) (ltb (from + length (piece input from)) (length input)), (refl, refl))
+
+    pub rest-left : drop (gathered (drop from input) 0 have).next (drop from input) ≡ drop (gathered input from have).next input
+    rest-left = drop-drop (gathered (drop from input) 0 have).next from input ∙ ap (λ (n : ℕ). drop n input) gathered-left.0
