@@ -1,6 +1,6 @@
 -- What the definitions of the calls and of salvage say on each path through the code.
 use Rattle.std.specs.Prelude.{Ok, Err}
-use Rattle.std.proofs.Common.{◌≡◌, ℕ, ◌+◌, ◌/◌, ◌%◌, ◌<◌, ◌≤◌, Bool, true, false, cond, eqb, List, [], ◌++◌, length, refl, ap, ◌∙◌, arith, eq-eqb, ne_eqb, le-leb}
+use Rattle.std.proofs.Common.{◌≡◌, ℕ, ◌+◌, ◌/◌, ◌%◌, ◌<◌, ◌≤◌, Bool, true, false, cond, eqb, List, [], ◌++◌, length, refl, sym, ap, ◌∙◌, arith, eq-eqb, ne_eqb, le-leb}
 use borrow.Author.Tests.{lt-leb}
 use Rattle.octets.specs.Part.{between}
 use Rattle.octets.specs.Reader.{Answer, fault, sound, and_then, check}
@@ -14,8 +14,8 @@ use Rattle.trace.specs.Salvage.{fate_by, fate_of, renumbered}
 use Rattle.trace.specs.Faults.{number_of}
 use Rattle.trace.specs.declared.faults.Fault.{Fault}
 use Rattle.trace.specs.Seen.{mended}
-use Rattle.trace.specs.declared.Fate.{Fate}
 use Rattle.trace.specs.declared.Fate.TheVariants.{Kept, Renumbered, Dropped, Short}
+use Rattle.trace.proofs.Paths.{is-short}
 use Rattle.trace.proofs.FaultLaws.{OfBlock, block-faults, whole-faults, fault_back, not_0, no-fault-sound}
 
 pub begin-refused : (b : List ℕ) (n : ℕ) → (length b ≡ 512 → ⊥) → (refused_by short_block ≡ begin_answer b) × (b ≡ begin_leaves b n)
@@ -57,21 +57,37 @@ module _ (b : List ℕ) (r : Record) where
 
 -- salvage
 
-pub fate-short : (kept : ℕ) (b : List ℕ) → (length b ≡ 512 → ⊥) → (Short ≡ fate_of kept b) × (b ≡ mended kept b (fate_of kept b))
-unfolding fate_of block_records
-fate-short kept b h = let e = ne_eqb (length b) 512 h in (rw e, rw e)
+by-short : (kept number : ℕ) (o : Answer (List Record)) → fault_of o ≡ 32 → Short ≡ fate_by kept number o
+by-short kept number (fault n) e = rw (eq-eqb n 32 e)
+by-short kept number (sound row) e = absurd (omega arith)
 
-past : (t : Bool) (x y : Fate) → t ≡ false → y ≡ cond t x y
-past t x y e = rw e
-
-by-dropped : (kept number : ℕ) (f : Fault) (o : Answer (List Record)) → Faults (λ n. 32 < n) o → number_of f ≡ fault_of o → Dropped number (number_of f) ≡ fate_by kept number o
-by-dropped kept number f (fault n) h e = ap (Dropped number) e ∙ past (eqb n 32) _ _ (ne_eqb n 32 (λ z. omega arith))
-by-dropped kept number f (sound row) h e = absurd (not_0 f e)
-
-pub fate-dropped : (kept : ℕ) (b : List ℕ) (f : Fault) → length b ≡ 512 → number_of f ≡ fault_of (block_records b)
-    → (Dropped (number_in b) (number_of f) ≡ fate_of kept b) × (b ≡ mended kept b (fate_of kept b))
+pub fate-short : (kept : ℕ) (b : List ℕ) → fault_of (block_records b) ≡ 32 → (Short ≡ fate_of kept b) × (b ≡ mended kept b (fate_of kept b))
 unfolding fate_of
-fate-dropped kept b f l h = let e = by-dropped kept (number_in b) f (block_records b) (whole-faults b l) h in (e, ap (mended kept b) e)
+fate-short kept b h = let e = by-short kept (number_in b) (block_records b) h in (e, ap (mended kept b) e)
+
+by-dropped : (kept number : ℕ) (o : Answer (List Record)) → (fault_of o ≡ 32 → ⊥) → (fault_of o ≡ 0 → ⊥) → Dropped number (fault_of o) ≡ fate_by kept number o
+by-dropped kept number (fault n) h z = rw (ne_eqb n 32 h)
+by-dropped kept number (sound row) h z = absurd (z refl)
+
+pub fate-dropped : (kept : ℕ) (b : List ℕ) → (fault_of (block_records b) ≡ 32 → ⊥) → (fault_of (block_records b) ≡ 0 → ⊥)
+    → (Dropped (number_in b) (fault_of (block_records b)) ≡ fate_of kept b) × (b ≡ mended kept b (fate_of kept b))
+unfolding fate_of
+fate-dropped kept b h z = let e = by-dropped kept (number_in b) (block_records b) h z in (e, ap (mended kept b) e)
+
+-- the same by the block's length, and by the fault that was found
+
+pub fate-other-length : (kept : ℕ) (b : List ℕ) → (length b ≡ 512 → ⊥) → (Short ≡ fate_of kept b) × (b ≡ mended kept b (fate_of kept b))
+fate-other-length kept b h = fate-short kept b (sym (is-short b h))
+
+above-32 : (o : Answer (List Record)) → Faults (λ n. 32 < n) o → fault_of o ≡ 32 → ⊥
+above-32 (fault n) h e = omega arith
+above-32 (sound row) h e = omega arith
+
+pub fate-fault : (kept : ℕ) (b : List ℕ) (f : Fault) → length b ≡ 512 → number_of f ≡ fault_of (block_records b)
+    → (Dropped (number_in b) (number_of f) ≡ fate_of kept b) × (b ≡ mended kept b (fate_of kept b))
+fate-fault kept b f l e =
+    let w = fate-dropped kept b (above-32 (block_records b) (whole-faults b l)) (λ z. not_0 f (e ∙ z)) in
+    (ap (Dropped (number_in b)) e ∙ w.0, w.1)
 
 by-kept : (kept number : ℕ) (o : Answer (List Record)) → Faults OfBlock o → fault_of o ≡ 0 → number ≡ kept → Kept ≡ fate_by kept number o
 by-kept kept number (fault n) f h e = let l = f.0 in absurd (omega arith)

@@ -1,5 +1,6 @@
 -- A block's faults: which numbers can come, and what holds of a block without any.
-use Rattle.std.proofs.Common.{◌≡◌, ℕ, ◌<◌, ◌≤◌, Bool, true, false, eqb, leb, List, length, take, refl, arith, eq-eqb, eqb-true, le-leb, leb-true}
+use Rattle.std.proofs.Common.{◌≡◌, ℕ, ◌<◌, ◌≤◌, Bool, true, false, eqb, leb, List, length, take, sym, refl, arith, eq-eqb, eqb-true, le-leb, leb-true}
+use borrow.Author.Tests.{eqb-false}
 use Rattle.octets.specs.Reader.{Answer, fault, sound, and_then, check}
 use Rattle.octets.proofs.FaultLaws.{Faults, check-faults}
 use Rattle.octets.proofs.ReaderLaws.{passed}
@@ -9,6 +10,7 @@ use Rattle.trace.specs.Numbers.{sum_of}
 use Rattle.trace.specs.Records.{Record, bad_record, records_in}
 use Rattle.trace.specs.Blocks.{short_block, wrong_sum, wrong_use, wrong_number, records_at, number_in, sum_in, used_in, record_part, rest_part, all_zero, block_records, fault_of}
 use Rattle.trace.proofs.RecordLaws.{records-fault}
+use Rattle.trace.proofs.Paths.{is-short}
 
 -- from 32 to 35
 abbrev pub OfBlock : ℕ → Type 0
@@ -85,6 +87,14 @@ no-fault-sound (sound row) f e = (row, refl)
 
 pub sound-row : (b : List ℕ) → fault_of (block_records b) ≡ 0 → (row : List Record) × IsSound b row
 sound-row b e = let w = no-fault-sound (block_records b) (block-faults b) e in (w.0, sound-was b w.0 w.1)
+
+-- any other fault than a short block: it is whole
+pub is_whole : (b : List ℕ) → (fault_of (block_records b) ≡ 32 → ⊥) → length b ≡ 512
+is_whole b h = go (eqb (length b) 512) refl
+  where
+    go : (t : Bool) → eqb (length b) 512 ≡ t → length b ≡ 512
+    go true e = eqb-true (length b) 512 e
+    go false e = absurd (h (sym (is-short b (eqb-false (length b) 512 e))))
 
 -- no fault at its place: there are records
 pub at-sound : (place : ℕ) (b : List ℕ) → fault_of (records_at place b) ≡ 0 → (row : List Record) × ((records_at place b ≡ sound row) × IsSound b row)

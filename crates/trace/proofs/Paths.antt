@@ -8,7 +8,7 @@ use Rattle.records.specs.Records.{one_record}
 use Rattle.octets.proofs.FaultLaws.{Faults}
 use Rattle.trace.specs.Numbers.{sum_of}
 use Rattle.trace.specs.Records.{Record, bad_record, trace_record, records_in}
-use Rattle.trace.specs.Blocks.{wrong_sum, wrong_use, sum_in, used_in, record_part, rest_part, all_zero, block_records, fault_of}
+use Rattle.trace.specs.Blocks.{short_block, wrong_sum, wrong_use, sum_in, used_in, record_part, rest_part, all_zero, block_records, fault_of}
 use Rattle.trace.specs.Seen.{is_sound}
 use Rattle.trace.proofs.RecordLaws.{records-fault}
 
@@ -37,6 +37,10 @@ module _ (s : List ℕ) where
 
 -- a block
 module _ (b : List ℕ) where
+  pub is-short : (length b ≡ 512 → ⊥) → short_block ≡ fault_of (block_records b)
+  unfolding block_records
+  is-short h = rw (ne_eqb (length b) 512 h)
+
   module _ (l : length b ≡ 512) where
     pub bad_sum_lem : (sum_of (take 510 b) ≡ sum_in b → ⊥) → wrong_sum ≡ fault_of (block_records b)
     unfolding block_records

@@ -1,7 +1,7 @@
 -- Records of a trace: what one holds is what was written, and of a row the first is read, then those behind it.
 use Rattle.std.proofs.Common.{◌≡◌, ℕ, zero, suc, ◌<◌, ◌≤◌, true, false, ◌&&◌, leb, List, [], ◌∷◌, ◌++◌, length, sym, refl, ap, ◌∙◌, append_assoc, append-nil, arith, length-append, leb-true}
 use Rattle.octets.specs.Reader.{Answer, fault, sound, Taken, took, and_then, is_empty}
-use Rattle.octets.proofs.ReaderLaws.{sound-inj, not_sound, passed}
+use Rattle.octets.proofs.ReaderLaws.{sound-inj, not_sound, through, passed}
 use Rattle.octets.proofs.TestLaws.{both}
 use Rattle.octets.proofs.FaultLaws.{Faults, then-faults, check-faults, cond-faults}
 use Rattle.records.specs.Records.{one_record}
@@ -95,6 +95,22 @@ records-append (r ∷ row) s h =
 pub records-back : (row : List Record) → Good row → records_in (records_of row) ≡ sound row
 records-back row h = ap records_in (sym (append-nil (records_of row))) ∙ records-append row [] h ∙ rw records-none (ap sound (append-nil row))
 
+-- what is read as records was written as records
+
+was-by : (f : ℕ) (s : List ℕ) (row : List Record) → records_by f s ≡ sound row → s ≡ records_of row
+unfolding records_by
+was-by zero [] row e = rw (← sound-inj e)
+was-by zero (a ∷ s) row e = not_sound e
+was-by (suc f) [] row e = rw (← sound-inj e)
+was-by (suc f) (a ∷ s) row e =
+    through (trace_record (a ∷ s)) _ row e λ g p q.
+    through (records_by f g.rest) _ row q λ others u v.
+    rw (← sound-inj v) ((record-was (a ∷ s) g p).0 ∙ ap (λ (x : List ℕ). record_octets g.value ++ x) (was-by f g.rest others u))
+
+pub records-were : (s : List ℕ) (row : List Record) → records_in s ≡ sound row → s ≡ records_of row
+unfolding records_in
+records-were s row e = was-by (length s) s row e
+
 -- the only fault is a bad record
 
 abbrev IsBad : ℕ → Type 0
@@ -132,5 +148,6 @@ sound-step s g e = rw (records-step s g e) (go (records_in g.rest))
 pub sound-bad : (s : List ℕ) (n : ℕ) → 0 < length s → trace_record s ≡ fault n → false ≡ is_sound (records_in s)
 sound-bad s n h e = rw (records-bad s n h e)
 
-pub sound-last : true ≡ is_sound (records_in [])
-sound-last = rw records-none
+pub sound-last : (s : List ℕ) → length s ≤ 0 → true ≡ is_sound (records_in s)
+sound-last [] h = rw records-none
+sound-last (a ∷ s) h = absurd (omega arith)

@@ -1,6 +1,7 @@
 // The writer: one block is held, and handed over where a record doesn't fit behind those that it has.
-ghost use Rattle.std.specs.Prelude.{◌≡◌};
+ghost use Rattle.std.specs.Prelude.{◌≡◌, IfErr};
 ghost use Rattle.trace.specs.Calls.{add_answer, add_leaves};
+ghost use Rattle.trace.specs.Faults.{number_of};
 ghost use Rattle.trace.specs.Seen.{answer_of};
 ghost use Rattle.trace.specs.Steps.{wrote, holds, hands_over};
 
@@ -45,6 +46,7 @@ pub fn write_record(
     message: &[u8],
 ) -> Result<Wrote, Fault>
     ensures answer { result ≡ wrote held.old number (record { direction = direction; message = message.now }) }
+    ensures number { IfErr result (λ f. number_of f ≡ (add_answer held.old (record { direction = direction; message = message.now })).code) }
     ensures held { held.new ≡ holds held.old number (record { direction = direction; message = message.now }) }
     ensures full { full.new ≡ hands_over full.old held.old (record { direction = direction; message = message.now }) }
 {

@@ -1,5 +1,5 @@
 use Rattle.octets.proofs.PartLaws.{rest_part_lem, left_over, none_left}
-use Rattle.std.proofs.Common.{sym, ap, ◌∙◌}
+use Rattle.std.proofs.Common.{[], sym, ap, ◌∙◌, arith}
 use Rattle.trace.specs.Records.{records_in}
 use Rattle.trace.specs.Seen.{is_sound}
 use Rattle.trace.proofs.RecordLaws.{sound-step, sound-bad, sound-last}
@@ -16,4 +16,4 @@ loop-rest-preserved c =
     ap (λ r. is_sound (records_in r)) (rest_part_lem c.in-Some.found.end c.loop-rest.rest.now) ∙ sound-step c.loop-rest.rest.now _ (sym e) ∙ c.loop-rest.invariant
 
 pub returns : goal.returns
-returns c = sound-last ∙ ap (λ r. is_sound (records_in r)) (sym (none_left _ c.loop-rest-test.ensures)) ∙ c.loop-rest.invariant
+returns c = sound-last [] (omega arith) ∙ ap (λ r. is_sound (records_in r)) (sym (none_left _ c.loop-rest-test.ensures)) ∙ c.loop-rest.invariant

@@ -1,14 +1,14 @@
-use Rattle.trace.proofs.CallPaths.{fate-short, fate-dropped, fate-kept, fate-moved}
+use Rattle.trace.proofs.CallPaths.{fate-other-length, fate-fault, fate-kept, fate-moved}
 use Rattle.std.proofs.Common.{length, sym, ap, ◌∙◌}
 use Rattle.trace.proofs.salvage.mend_block.Goals as goal
 
 pub returns-in_default : goal.returns-in_default
-returns-in_default c = let w = fate-short c.args.kept c.args.block.now c.in_default.ensures.cases in record { fate = w.0; block = w.1 }
+returns-in_default c = let w = fate-other-length c.args.kept c.args.block.now c.in_default.ensures.cases in record { fate = w.0; block = w.1 }
 
 pub returns-in-Err : goal.returns-in-Err
 returns-in-Err c =
     let s = c.in-Some.ensures.cases in
-    let w = fate-dropped c.args.kept c.in-Some.block.now c.in-Err.fault (ap length s.same ∙ s.long) c.in-Err.ensures in
+    let w = fate-fault c.args.kept c.in-Some.block.now c.in-Err.fault (ap length s.same ∙ s.long) c.in-Err.ensures in
     record { fate = rw (c.number_in-number.ensures, c.number.ensures, ← s.same) w.0; block = rw (← s.same) w.1 }
 
 pub returns-then-number-kept : goal.returns-then-number-kept
