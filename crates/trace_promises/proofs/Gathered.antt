@@ -15,11 +15,11 @@ use Rattle.octets.proofs.TestLaws.{both}
 use Rattle.printing.specs.Forty.{plain}
 use Rattle.printing.proofs.FortyLaws.{plain-append}
 use Rattle.words.specs.Lines.{line_end, piece, held, with_piece, gathered}
-use Rattle.words.proofs.LineLaws.{piece-ends}
+use Rattle.words.proofs.LineLaws.{piece-ends, piece-left, some-left, gathered-left, rest-left}
 use Rattle.trace.specs.Files.{joined}
 use Rattle.trace_lines.specs.Told.{Begun, kind_if, followed}
 use Rattle.trace_promises.specs.Retold.{lines_in}
-use Rattle.trace_promises.specs.Gathered.{Line, line_of, taken_from, taken_all, SameLine, SameLines, Gathers, TakenAs}
+use Rattle.trace_promises.specs.Gathered.{Line, line_of, taken_from, taken_all, taken_left, taken_each, SameLine, SameLines, Gathers, GathersLeft, TakenAs}
 use Rattle.trace_promises.proofs.LinesBack.{line-ends}
 
 -- so much of a line is there: its octets and their count, or the count alone where it is too long
@@ -204,6 +204,32 @@ takes_all (input ∷ others) = takes-from input (joined others) (taken_all other
 
 pub gathers : Gathers
 gathers pieces line l = takes_all pieces line 0 [] (nothing-stands line l)
+
+-- a turn over what is left is a turn from that place on
+left-from : (most : ℕ) (input : List ℕ) (from : ℕ) (line : List ℕ) (have : ℕ) (behind : List ℕ → ℕ → List Line)
+    → taken_left most (drop from input) line have behind ≡ taken_from most input from line have behind
+left-from zero input from line have behind = refl
+left-from (suc most) input from line have behind =
+    let g = gathered-left input from have in
+    let next : ℕ = (gathered input from have).next in
+    let more : List ℕ = with_piece line have (piece input from) in
+    rw (some-left input from, piece-left input from, rest-left input from have, g.1.0, g.1.1)
+    (λ i. cond (ltb from (length input))
+    (cond (gathered input from have).is_whole
+    (line_of more (gathered input from have).have ∷ left-from most input next more 0 behind i)
+    (left-from most input next more (gathered input from have).have behind i))
+    (behind line have))
+
+takes_each : (pieces : List (List ℕ)) → Takes (joined pieces) (taken_each pieces)
+takes_each [] = takes-end
+takes_each (input ∷ others) = λ line have c s.
+    subst (λ (lines : List Line). SameLines lines (lines_in (c ++ (input ++ joined others))))
+    (sym (left-from (suc (length input)) input 0 line have (taken_each others)))
+    (takes-from input (joined others) (taken_each others) (takes_each others) (suc (length input)) 0 (omega arith) line have c s)
+
+pub gathers_left : GathersLeft
+gathers_left =
+    (λ pieces line l. takes_each pieces line 0 [] (nothing-stands line l), λ input line have behind. left-from (suc (length input)) input 0 line have behind)
 
 -- too long a line is refused whatever it says, and any other is the same line
 as_by : (long over : Bool) (text line : List ℕ) → long ≡ over → (long ≡ false → text ≡ line) → (n : ℕ) (begun : Option Begun)

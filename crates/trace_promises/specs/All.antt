@@ -6,9 +6,9 @@ use Rattle.trace_promises.specs.Mended.{WholeStays, ReadsMended, Settles, EachBl
 use Rattle.trace_promises.specs.Built.{CallsBuild, WriterBuilds}
 use Rattle.trace_promises.specs.Programs.{ReaderShows, SalvageGives, WriterWrites}
 use Rattle.trace_promises.specs.Retold.{Retold}
-use Rattle.trace_promises.specs.Gathered.{Gathers, TakenAs}
+use Rattle.trace_promises.specs.Gathered.{Gathers, GathersLeft, TakenAs}
 use Rattle.trace_promises.specs.Cases.{Cases}
 use Rattle.trace_promises.specs.Determined.{Determined}
 
 abbrev pub All : Type 0
-All = AllBlocks × (InOrder × (FirstFault × (ReadsBack × (FewBlocks × (OpensLate × (WholeStays × (ReadsMended × (Settles × (EachBlock × (CallsBuild × (WriterBuilds × (ReaderShows × (SalvageGives × (WriterWrites × (Retold × (Gathers × (TakenAs × (Cases × Determined))))))))))))))))))
+All = AllBlocks × (InOrder × (FirstFault × (ReadsBack × (FewBlocks × (OpensLate × (WholeStays × (ReadsMended × (Settles × (EachBlock × (CallsBuild × (WriterBuilds × (ReaderShows × (SalvageGives × (WriterWrites × (Retold × (Gathers × (GathersLeft × (TakenAs × (Cases × Determined)))))))))))))))))))
