@@ -6,7 +6,7 @@ use std::io;
 use std::io::Print;
 use streams::{give, input_failed, read_block};
 use trace::salvage::{is_kept, mend_block};
-use trace_lines::listed::list_line;
+use trace_lines::listed::print_fate;
 
 // Writes a block if it is kept, and its line of the list: whether it is kept. The block is written even where the line can't be.
 fn mend(
@@ -18,7 +18,7 @@ fn mend(
     place: u64,
 ) -> io::Result<bool> {
     let fate = mend_block(block, kept);
-    list_line(line, fate, place);
+    print_fate(line, fate, place);
     let listed = give(errors, errors, line.text());
     if is_kept(fate) {
         give(output, errors, block)?;

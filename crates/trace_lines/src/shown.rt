@@ -1,5 +1,6 @@
 // What the reader prints of a block.
-ghost use Rattle.std.specs.Prelude.{◌≡◌, true, ◌+◌, ◌*◌, ◌≤◌, length};
+ghost use Rattle.std.specs.Prelude.{◌≡◌, true, not, ◌+◌, ◌*◌, ◌≤◌, length, eqb};
+ghost use Rattle.printing.specs.Lent.{Filled as FilledAt};
 ghost use Rattle.printing.specs.Page.{WroteWithin, Filled};
 ghost use Rattle.trace.specs.Records.{records_in};
 ghost use Rattle.trace.specs.Blocks.{records_at, records_or, fault_of};
@@ -11,6 +12,13 @@ use printing::page::Page;
 use trace::faults::Fault;
 use trace::places::{fault_at, record_part};
 use trace::reading::read_traced;
+
+// How much of the page is written, and whether the block is refused.
+#[derive(Clone, Copy)]
+pub struct Shown {
+    pub written: usize,
+    pub is_refused: bool,
+}
 
 // A word, a number, a word, a number.
 pub(crate) fn four_line<const N: usize>(
@@ -58,7 +66,7 @@ fn record_lines<const N: usize>(page: &mut Page<N>, s: &[u8])
 }
 
 // Its records, or the place and the number of its first fault; whether it has one.
-pub fn block_lines(page: &mut Page<16384>, block: &[u8], place: u64) -> Result<(), Fault>
+pub fn print_block(page: &mut Page<16384>, block: &[u8], place: u64) -> Result<(), Fault>
     ensures page { Filled 16384 (block_text place block.now) page.new }
     ensures refused { code_of result ≡ fault_of (records_at place block.now) }
 {
@@ -72,11 +80,35 @@ pub fn block_lines(page: &mut Page<16384>, block: &[u8], place: u64) -> Result<(
     Ok(())
 }
 
+// The same on a lent page.
+pub fn block_lines(page: &mut [u8; 16384], block: &[u8], place: u64) -> Shown
+    ensures page { FilledAt 16384 page.old (block_text place block.now) page.new result.written }
+    ensures refused { result.is_refused ≡ not (eqb (fault_of (records_at place block.now)) 0) }
+{
+    let mut shown = Page::<16384>::new();
+    let judged = print_block(&mut shown, block, place);
+    octets::put(page, 0, shown.text());
+    Shown {
+        written: shown.text().len(),
+        is_refused: judged.is_err(),
+    }
+}
+
 // The line on which a bad record begins.
-pub fn refused_at(page: &mut Page<80>, line: u64)
+pub fn print_refused(page: &mut Page<80>, line: u64)
     ensures { Filled 80 (bad_line line) page.new }
 {
     page.clear();
     let number = Fault::BadRecords.number() as u64;
     four_line(page, b"line ", line, b" refused ", number);
+}
+
+// The same on a lent page: how much of it is written.
+pub fn refused_at(page: &mut [u8; 80], line: u64) -> usize
+    ensures { FilledAt 80 page.old (bad_line line) page.new result }
+{
+    let mut told = Page::<80>::new();
+    print_refused(&mut told, line);
+    octets::put(page, 0, told.text());
+    told.text().len()
 }

@@ -4,7 +4,7 @@
 use printing::page::Page;
 use std::io::Print;
 use streams::{give, input_failed, read_block};
-use trace_lines::shown::block_lines;
+use trace_lines::shown::print_block;
 
 // Prints a block; whether another may follow.
 fn show(
@@ -14,7 +14,7 @@ fn show(
     page: &mut Page<16384>,
     place: u64,
 ) -> bool {
-    let judged = block_lines(page, block, place);
+    let judged = print_block(page, block, place);
     let given = give(output, errors, page.text());
     given.is_ok() & judged.is_ok()
 }

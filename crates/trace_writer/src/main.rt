@@ -9,7 +9,7 @@ use std::io;
 use std::io::{Print, Read};
 use streams::{give, input_failed};
 use trace_lines::book::{Book, Turn, finish, take_line};
-use trace_lines::shown::refused_at;
+use trace_lines::shown::print_refused;
 use words::lines::{counted, gather};
 
 // The line that is read, the octets of the record that is begun, the block that is held, and one that is handed over.
@@ -137,7 +137,7 @@ fn end(output: &impl Print, errors: &impl Print, held: &[u8; 512], book: Book) -
     hand_over(output, errors, held, book.is_open)?;
     if let Some(line) = book.refused {
         let mut page = Page::new();
-        refused_at(&mut page, line);
+        print_refused(&mut page, line);
         give(errors, errors, page.text())?;
     }
     Ok(())

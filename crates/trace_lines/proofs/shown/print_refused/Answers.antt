@@ -2,7 +2,7 @@ use Rattle.trace_lines.proofs.ShownLaws.{fills}
 use Rattle.trace_lines.specs.Shown.{bad_line}
 use mathlib.Core.Path.{refl}
 use native.Mathlib.Omega.{arith}
-use Rattle.trace_lines.proofs.shown.refused_at.Goals as goal
+use Rattle.trace_lines.proofs.shown.print_refused.Goals as goal
 
 pub returns : goal.returns
 unfolding bad_line

@@ -3,7 +3,7 @@ use Rattle.trace_lines.specs.Listed.{listed_line}
 use lib.ListN.{length}
 use native.Mathlib.Omega.{arith}
 use mathlib.Core.Path.{ap, ◌∙◌}
-use Rattle.trace_lines.proofs.listed.list_line.Goals as goal
+use Rattle.trace_lines.proofs.listed.print_fate.Goals as goal
 
 pub returns-in-Kept : goal.returns-in-Kept
 returns-in-Kept c = rw c.in-Kept.is (c.clear.ensures ∙ none-listed, omega (arith, ap length c.clear.ensures))

@@ -3,7 +3,7 @@ use Rattle.trace_lines.proofs.ShownLaws.{part-fits, text-refused, text-sound, fi
 use Rattle.trace.proofs.FaultLaws.{at-sound, not_0}
 use native.Mathlib.Omega.{arith}
 use mathlib.Core.Path.{sym, ◌∙◌, ap}
-use Rattle.trace_lines.proofs.shown.block_lines.Goals as goal
+use Rattle.trace_lines.proofs.shown.print_block.Goals as goal
 
 pub returns-in-Err : goal.returns-in-Err
 returns-in-Err c =
