@@ -2,12 +2,12 @@
 use Prim.Native.Nat.{ℕ, ◌+◌, ◌-◌, ◌≤◌, ◌<◌}
 use mathlib.Core.Path.{◌≡◌, refl, sym, ap, ◌∙◌}
 use mathlib.Core.List.{List, [], ◌∷◌, ◌++◌}
-use mathlib.Core.Option.{none}
-use mathlib.Core.Bool.{true, false}
+use mathlib.Core.Option.{Option, none, some}
+use mathlib.Core.Bool.{Bool, true, false, cond}
 use native.Mathlib.Omega.{arith}
 use lib.ListN.{length, take, drop, get_or, length-append}
 use lib.Seq.{take_at, length-take-le, take-nil, drop-nil}
-use lib.Dec.{eqb}
+use lib.Dec.{eqb, leb}
 use borrow.Author.Tests.{eq-eqb, ne_eqb, le-leb, lt-leb}
 use Rattle.octets.specs.Splice.{splice}
 use Rattle.octets.proofs.SpliceLaws.{splice_front}
@@ -19,8 +19,8 @@ use Rattle.octets.specs.declared.Span.{Span}
 use Rattle.words.specs.declared.Ending.{Ending}
 use Rattle.words.specs.declared.Ending.TheVariants.{Whole, Wrong, Long}
 use Rattle.trace_lines.specs.Shown.{received, sent}
-use Rattle.trace_lines.specs.Told.{Begun, grown, kind_of, kind_by}
-use Rattle.trace_lines.specs.Desk.{join_seen}
+use Rattle.trace_lines.specs.Told.{Begun, grown_by, grown, Next, or_refuses, onward_with, followed, kind_of, kind_by}
+use Rattle.trace_lines.specs.Desk.{join_seen, Lined, NextLined}
 use Rattle.trace_lines.specs.declared.told.Kind.{Kind}
 use Rattle.trace_lines.specs.declared.told.Kind.TheVariants.{Passed, Onward, First, Other}
 
@@ -97,3 +97,32 @@ some-octet [] first word w n = let z : length word ≡ 0 = ap length (w ∙ none
     none-between-nil : (t : Span) → spelled [] t ≡ []
     none-between-nil t = rw (drop-nil {A = ℕ} t.start, take-nil {A = ℕ} (t.end - t.start))
 some-octet (a ∷ line) first word w n = omega arith
+
+-- lines are counted from 1
+
+grown-by-lined : (b : Begun) (octets : List ℕ) (e : Ending) → 1 ≤ b.line → NextLined (or_refuses b.line (grown_by b octets e))
+grown-by-lined b octets Whole h = go (leb (length b.message + length octets) 255)
+  where
+    go : (t : Bool) → NextLined (or_refuses b.line (cond t (some (record { direction = b.direction; message = b.message ++ octets; line = b.line })) none))
+    go true = h
+    go false = h
+grown-by-lined b octets Wrong h = h
+grown-by-lined b octets Long h = h
+
+pub grown-lined : (b : Begun) (text : List ℕ) → 1 ≤ b.line → NextLined (or_refuses b.line (grown b text))
+unfolding grown
+grown-lined b text h = grown-by-lined b (hex 255 text).octets (hex 255 text).ends h
+
+onward-lined : (line : List ℕ) (n : ℕ) (begun : Option Begun) → 1 ≤ n → Lined begun → NextLined (onward_with line n begun)
+onward-lined line n none h b = h
+onward-lined line n (some a) h b = grown-lined a line b
+
+pub followed-lined : (kind : Kind) (line : List ℕ) (n : ℕ) (begun : Option Begun) → 1 ≤ n → Lined begun → NextLined (followed kind line n begun)
+unfolding followed
+followed-lined Passed line n begun h b = b
+followed-lined Onward line n begun h b = onward-lined line n begun h b
+followed-lined (First direction at) line n begun h b = grown-lined (record { direction = direction; message = []; line = n }) (drop at line) h
+followed-lined Other line n begun h b = h
+
+pub lined-by : (x y : Next) → x ≡ y → NextLined y → NextLined x
+lined-by x y e m = rw e m

@@ -66,3 +66,12 @@ kept_if there begun = cond there begun none
 
 abbrev pub pen_if : Bool → Maybe Pen → Maybe Pen
 pen_if there pen = cond there pen None
+
+-- lines are counted from 1
+abbrev pub Lined : Option Begun → Type 0
+Lined none = Unit {0}
+Lined (some b) = 1 ≤ b.line
+
+abbrev pub NextLined : Next → Type 0
+NextLined (goes begun) = Lined begun
+NextLined (refuses n) = 1 ≤ n

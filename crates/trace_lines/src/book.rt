@@ -1,7 +1,7 @@
 // The record that ends with a line, written behind those of the block that is held.
 ghost use Rattle.std.specs.Prelude.{◌≡◌, ◌≤◌, length};
 ghost use Rattle.trace_lines.specs.Told.{kind_if};
-ghost use Rattle.trace_lines.specs.Desk.{Ready, count_of, pen_if, refused_with, Turns, pen_seen};
+ghost use Rattle.trace_lines.specs.Desk.{Ready, Lined, NextLined, count_of, pen_if, refused_with, Turns, pen_seen, turn_seen};
 ghost use Rattle.trace_lines.specs.Book.{book_after, held_after, full_after, settled, next_by, book_by};
 
 use crate::told::{Pen, follow, is_ending, kind_of};
@@ -96,6 +96,7 @@ pub fn take_line(
 ) -> Turn
     requires { Ready turn.pen × (length message.old ≡ 255) }
     ensures next { Turns (next_by (kind_if long line.now) line.now n (pen_seen turn.pen message.old) held.old turn.book) message.new result }
+    ensures lined { 1 ≤ n → Lined (pen_seen turn.pen message.old) → NextLined (turn_seen result message.new) }
     ensures book { result.book ≡ book_by (kind_if long line.now) line.now n (pen_seen turn.pen message.old) held.old turn.book }
     ensures held { held.new ≡ held_after (settled (kind_if long line.now) (pen_seen turn.pen message.old)) held.old turn.book.number }
     ensures full { full.new ≡ full_after (settled (kind_if long line.now) (pen_seen turn.pen message.old)) held.old full.old }

@@ -1,7 +1,7 @@
 // Lines that tell records: `received HEX` or `sent HEX`, and lines that go on with the record before.
 ghost use Rattle.std.specs.Prelude.{◌≡◌, ◌≤◌, length, take};
 ghost use Rattle.trace_lines.specs.Told.{kind_if, ends, grown, or_refuses, followed};
-ghost use Rattle.trace_lines.specs.Desk.{Joins, Ready, Follows, begun_seen, pen_seen};
+ghost use Rattle.trace_lines.specs.Desk.{Joins, Ready, Follows, Lined, NextLined, begun_seen, next_seen, pen_seen};
 
 use words::Ending;
 use words::hex::read_hex;
@@ -100,7 +100,8 @@ pub fn follow(
     pen: Option<Pen>,
 ) -> Result<Option<Pen>, u64>
     requires { Ready pen × (length message.old ≡ 255) }
-    ensures { Follows (followed kind line.now n (pen_seen pen message.old)) message.new result }
+    ensures next { Follows (followed kind line.now n (pen_seen pen message.old)) message.new result }
+    ensures lined { 1 ≤ n → Lined (pen_seen pen message.old) → NextLined (next_seen result message.new) }
 {
     match kind {
         Kind::Passed => Ok(pen),
