@@ -2,7 +2,7 @@ use Rattle.octets.proofs.PartLaws.{length-between, rest_part_lem, left_over, non
 use Rattle.trace_lines.proofs.ShownLaws.{lines_at, at-step, at_none, not-bad}
 use Rattle.trace.proofs.RecordLaws.{sound-step}
 use Rattle.printing.proofs.PageLaws.{piece, ended}
-use lib.ListN.{drop, length-drop}
+use lib.ListN.{length, drop, length-drop}
 use mathlib.Core.Path.{sym, ap, ◌∙◌}
 use native.Mathlib.Omega.{arith}
 use Rattle.trace_lines.proofs.shown.record_lines.Goals as goal
@@ -36,4 +36,4 @@ loop-rest-preserved g c =
 pub returns : goal.returns
 returns g c =
     let l = c.loop-rest in
-    (ended _ _ _ (ap lines_at (none_left _ c.loop-rest-test.ensures) ∙ at_none) l.invariant.1.0, omega (arith, l.invariant.1.1))
+    (ended _ _ _ (at_none l.rest.now (omega (arith, ap length (none_left _ c.loop-rest-test.ensures)))) l.invariant.1.0, omega (arith, l.invariant.1.1))
