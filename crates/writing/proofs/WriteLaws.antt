@@ -5,9 +5,8 @@ use mathlib.Core.List.{List, [], ◌∷◌, ◌++◌, append_assoc}
 use native.Mathlib.Omega.{arith}
 use lib.ListN.{length, length-append}
 use lib.IntN.{ℤ}
-use mathlib.Core.Bool.{true, false}
+use mathlib.Core.Bool.{Bool, true, false, cond}
 use lib.Dec.{eqb, eqb-suc-zero}
-use borrow.Author.Tests.{eqb-true, eqb-false}
 use Rattle.octets.specs.Splice.{splice}
 use Rattle.codes.specs.Ids.{octet_of}
 use Rattle.codes.proofs.IdLaws.{held-is}
@@ -63,15 +62,15 @@ pub fits-as : (at n : ℕ) {v w : List ℕ} → v ≡ w → at + length w ≤ n 
 fits-as at n q h = subst (λ (x : List ℕ). at + length x ≤ n) (sym q) h
 
 -- the answer to an operation, without a parameter and with one; x is the id's octet
-pub answer-bare : (id : ℤ) (x o : ℕ) (p : List ℕ) → x ≡ octet_of id → true ≡ eqb (length p) 0 → written 0xA2 (0x02 ∷ 0x01 ∷ x ∷ p) ≡ component_octets (result_for id o p)
+pub answer-bare : (id : ℤ) (x o : ℕ) (p : List ℕ) → x ≡ octet_of id → length p ≡ 0 → written 0xA2 (0x02 ∷ 0x01 ∷ x ∷ p) ≡ component_octets (result_for id o p)
 unfolding contents result_for
 answer-bare id x o [] e h = rw e
-answer-bare id x o (a ∷ p) e h = absurd (omega (arith, eqb-true _ _ (sym h)))
+answer-bare id x o (a ∷ p) e h = absurd (omega arith)
 
-pub answer-full : (id : ℤ) (x o : ℕ) (p : List ℕ) → x ≡ octet_of id → false ≡ eqb (length p) 0
+pub answer-full : (id : ℤ) (x o : ℕ) (p : List ℕ) → x ≡ octet_of id → (length p ≡ 0 → ⊥)
     → written 0xA2 ((0x02 ∷ 0x01 ∷ x ∷ []) ++ written 0x30 (0x02 ∷ 0x01 ∷ o ∷ p)) ≡ component_octets (result_for id o p)
 unfolding contents result_for
-answer-full id x o [] e h = absurd (eqb-false 0 0 (sym h) refl)
+answer-full id x o [] e h = absurd (h refl)
 answer-full id x o (a ∷ p) e h = rw e
 
 -- how long each is
@@ -100,7 +99,14 @@ unfolding contents shortest
 reject-octets none tag problem = refl
 reject-octets (some id) tag problem = refl
 
--- a bound that leaves room for what stands around it
+-- a bound on each length that leaves room for what stands around it
+pub answer-bound : (n : ℕ) → n ≤ 255 → result_length n ≤ 300
+answer-bound n h = go (eqb n 0)
+  where
+    go : (b : Bool) → cond b (enclosed_length 3) (enclosed_length (3 + enclosed_length (3 + n))) ≤ 300
+    go true = omega (arith, (shortest-length 3).1)
+    go false = omega (arith, (shortest-length (3 + n)).1, (shortest-length (3 + enclosed_length (3 + n))).1)
+
 pub reject-bound : (id : Option ℤ) → reject_length id ≤ 8
 reject-bound none = omega arith
 reject-bound (some id) = omega arith
