@@ -1,6 +1,7 @@
 // What is printed of a received message and of a call.
 ghost use Rattle.std.specs.Prelude.{◌≡◌, ◌+◌, ◌≤◌, length};
 ghost use Rattle.printing.specs.Page.{WroteWithin, Filled};
+ghost use Rattle.printing.specs.Lent.{WroteWithin as WroteAt, Filled as FilledAt};
 ghost use Rattle.showing.specs.Views.{standing};
 ghost use Rattle.reports.specs.Shown.{kind_lines, number_lines, parameter_line, text_lines, cause_line, written_line, received_text, called_text};
 
@@ -91,7 +92,7 @@ fn cause_line<const N: usize>(page: &mut Page<N>, message: &[u8], view: CauseVie
 
 // What is to be sent: the front of the buffer.
 #[tactic(auto, unfolding(crate::specs::Shown::written_line))]
-pub fn written_line<const N: usize>(page: &mut Page<N>, word: &[u8], written: usize, buffer: &[u8])
+pub fn print_written<const N: usize>(page: &mut Page<N>, word: &[u8], written: usize, buffer: &[u8])
     requires { (length word.now ≤ 16) × ((length buffer.now ≤ 300) × (length page.old + 1264 ≤ N)) }
     ensures { WroteWithin 1264 page.old (written_line word.now written buffer.now) page.new }
 {
@@ -100,9 +101,20 @@ pub fn written_line<const N: usize>(page: &mut Page<N>, word: &[u8], written: us
     }
 }
 
+// The same in a lent page, at a place; the answer is the place behind it.
+pub fn written_line(page: &mut [u8], at: usize, word: &[u8], written: usize, buffer: &[u8]) -> usize
+    requires { (length word.now ≤ 16) × ((length buffer.now ≤ 300) × (at + 1264 ≤ length page.old)) }
+    ensures { WroteAt 1264 page.old at (written_line word.now written buffer.now) page.new result }
+{
+    let mut line = Page::<1264>::new();
+    print_written(&mut line, word, written, buffer);
+    octets::put(page, at, line.text());
+    at + line.text().len()
+}
+
 // A received message, with the reply that is written into a buffer.
 #[tactic(auto, unfolding(crate::specs::Shown::received_text))]
-pub fn received_text<const N: usize>(
+pub fn print_received<const N: usize>(
     page: &mut Page<N>,
     message: &[u8],
     reply: &[u8],
@@ -118,13 +130,24 @@ pub fn received_text<const N: usize>(
     parameter_line(page, message, received);
     text_lines(page, message, received.text);
     cause_line(page, message, received.cause);
-    written_line(page, b"reply", received.written, reply);
+    print_written(page, b"reply", received.written, reply);
     page.words(b"\n");
+}
+
+// The same at the start of a lent page; the answer is how long it is.
+pub fn received_text(page: &mut [u8], message: &[u8], reply: &[u8], received: Received) -> usize
+    requires { (length message.now ≤ 4096) × ((length reply.now ≤ 300) × (70000 ≤ length page.old)) }
+    ensures { FilledAt 70000 page.old (received_text message.now reply.now received) page.new result }
+{
+    let mut answer = Page::<70000>::new();
+    print_received(&mut answer, message, reply, received);
+    octets::put(page, 0, answer.text());
+    answer.text().len()
 }
 
 // A call, with the message that is written into a buffer; a begin tells its value.
 #[tactic(auto, unfolding(crate::specs::Shown::called_text))]
-pub fn called_text<const N: usize>(page: &mut Page<N>, begins: bool, buffer: &[u8], called: Called)
+pub fn print_called<const N: usize>(page: &mut Page<N>, begins: bool, buffer: &[u8], called: Called)
     requires { (length buffer.now ≤ 300) × (70000 ≤ N) }
     ensures { Filled 70000 (called_text begins buffer.now called) page.new }
 {
@@ -133,6 +156,17 @@ pub fn called_text<const N: usize>(page: &mut Page<N>, begins: bool, buffer: &[u
     if begins && called.code == 0 {
         page.number_line(b"value", called.value as u64);
     }
-    written_line(page, b"message", called.written, buffer);
+    print_written(page, b"message", called.written, buffer);
     page.words(b"\n");
+}
+
+// The same at the start of a lent page; the answer is how long it is.
+pub fn called_text(page: &mut [u8], begins: bool, buffer: &[u8], called: Called) -> usize
+    requires { (length buffer.now ≤ 300) × (70000 ≤ length page.old) }
+    ensures { FilledAt 70000 page.old (called_text begins buffer.now called) page.new result }
+{
+    let mut report = Page::<70000>::new();
+    print_called(&mut report, begins, buffer, called);
+    octets::put(page, 0, report.text());
+    report.text().len()
 }

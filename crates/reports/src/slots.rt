@@ -1,9 +1,10 @@
 // What is printed of a batch.
 ghost use Rattle.std.specs.Prelude.{◌+◌, ◌*◌, ◌≤◌, length};
 ghost use Rattle.printing.specs.Page.{WroteWithin, Filled};
+ghost use Rattle.printing.specs.Lent.{Filled as FilledAt};
 ghost use Rattle.reports.specs.Slots.{slot_text, slot_lines, batched_text};
 
-use crate::shown::written_line;
+use crate::shown::print_written;
 use crate::verdicts::{done_or_refused, verdict_line};
 use printing::page::Page;
 use telephone::batch::Batched;
@@ -15,7 +16,7 @@ fn slot_text<const N: usize>(page: &mut Page<N>, output: &[u8])
     ensures { WroteWithin 1328 page.old (slot_text output.now) page.new }
 {
     page.words(verdict_line(output[0]));
-    written_line(page, b"reply", output[1] as usize, &output[2..14]);
+    print_written(page, b"reply", output[1] as usize, &output[2..14]);
 }
 
 // So many slots, from the front of the output on.
@@ -32,7 +33,7 @@ fn slot_lines<const N: usize>(page: &mut Page<N>, output: &[u8], slots: usize)
 
 // A batch, with the slots that are written into an output.
 #[tactic(auto, unfolding(crate::specs::Slots::batched_text))]
-pub fn batched_text<const N: usize>(page: &mut Page<N>, output: &[u8], batched: Batched)
+pub fn print_batched<const N: usize>(page: &mut Page<N>, output: &[u8], batched: Batched)
     requires { (length output.now ≤ 300) × ((14 * batched.slots ≤ length output.now) × (70000 ≤ N)) }
     ensures { Filled 70000 (batched_text output.now batched) page.new }
 {
@@ -43,4 +44,15 @@ pub fn batched_text<const N: usize>(page: &mut Page<N>, output: &[u8], batched: 
         slot_lines(page, output, batched.slots);
     }
     page.words(b"\n");
+}
+
+// The same at the start of a lent page; the answer is how long it is.
+pub fn batched_text(page: &mut [u8], output: &[u8], batched: Batched) -> usize
+    requires { (length output.now ≤ 300) × ((14 * batched.slots ≤ length output.now) × (70000 ≤ length page.old)) }
+    ensures { FilledAt 70000 page.old (batched_text output.now batched) page.new result }
+{
+    let mut answer = Page::<70000>::new();
+    print_batched(&mut answer, output, batched);
+    octets::put(page, 0, answer.text());
+    answer.text().len()
 }

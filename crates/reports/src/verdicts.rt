@@ -4,7 +4,7 @@ ghost use Rattle.reports.specs.Words.{refused_line, verdict_line, done_or_refuse
 
 // None for a number that is no refusal.
 #[tactic(auto, unfolding(crate::specs::Words::refused_line))]
-fn refused_line(code: u8) -> &'static [u8]
+pub fn refused_line(code: u8) -> &'static [u8]
     ensures words { result.now ≡ refused_line code }
     ensures within { length result.now ≤ 64 }
 {
