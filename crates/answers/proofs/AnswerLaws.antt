@@ -15,7 +15,7 @@ use Rattle.reports.specs.Words.{table_set}
 use Rattle.answers.specs.Answers.{State, says, not_understood, too_long, made, call, image, octets_at, on_octets, Makes, AnswersLine}
 
 -- what was written at the front stands there
-front_is : (s t : List ℕ) (n : ℕ) → n ≡ length t → take n (splice s 0 t) ≡ t
+pub front_is : (s t : List ℕ) (n : ℕ) → n ≡ length t → take n (splice s 0 t) ≡ t
 front_is s t n e = rw (e, splice_front s t) (take-append_seam t (drop (length t) s))
 
 image_set : (n : ℕ) (s : State) (p : List ℕ) → (length p ≡ 0 → ⊥) → length p ≤ 300 → image n s p ≡ says table_set (record { table = p; room = s.room })

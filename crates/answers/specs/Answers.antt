@@ -1,6 +1,7 @@
 -- The bench: each line's answer, and what it leaves for the lines behind it.
 use Rattle.std.specs.Prelude.{ℕ, ◌≤◌, ◌≡◌, List, [], ◌∷◌, ◌++◌, Bool, true, false, cond, length, take, drop, replicate, leb, ltb, Option, None, Some, Result as OrElse, Ok, Err}
 use Rattle.octets.specs.Reader.{is_empty}
+use Rattle.octets.specs.Splice.{splice}
 use Rattle.printing.specs.Page.{Filled}
 use Rattle.printing.specs.Numbers.{decimal}
 use Rattle.printing.specs.Lines.{octets_line, number_line}
@@ -17,6 +18,7 @@ use Rattle.telephone.specs.Calls.{begin, invoke_within, result, error, release}
 use Rattle.telephone.specs.Batch.{Batch as BatchOutcome, batch}
 use Rattle.telephone.specs.FromC.{received_of, called_of, batched_of}
 use Rattle.words.specs.Lines.{longest}
+use Rattle.answers.specs.declared.answer.Held.{Held}
 use Rattle.answers.specs.declared.answer.Asks.{Asks}
 use Rattle.answers.specs.declared.answer.Asks.TheVariants.{Room, Image, Call}
 use Rattle.reports.specs.Words.{table_word, buffer_word, line_word, table_set, not_understood_words, too_long_words}
@@ -146,3 +148,19 @@ Makes m table page = (table ≡ m.table) × Filled 70000 m.text page
 -- of an answer: its text on the page, and what it leaves for the lines behind it
 abbrev pub AnswersLine : Said → State → List ℕ → Type 0
 AnswersLine said after page = (after ≡ said.state) × Filled 70000 said.text page
+
+-- what is held from line to line, as a state: the image stands at the front of its space
+abbrev pub bench_state : List ℕ → Held → State
+bench_state space held = record { table = take held.size space; room = held.room }
+
+-- what is held of an answer
+abbrev pub held_of : Said → Held
+held_of d = record { size = length d.state.table; room = d.state.room; written = length d.text }
+
+abbrev pub Sound : Held → Type 0
+Sound h = (h.size ≤ 300) × ((h.room ≤ 300) × (h.written ≤ 70000))
+
+-- of an answer over what is lent: what it says of the image and in its text, and what is held of both
+abbrev pub AnswersLent : Said → List ℕ → List ℕ → List ℕ → List ℕ → Held → Type 0
+AnswersLent said space image page after held =
+    (image ≡ splice space 0 said.state.table) × ((after ≡ splice page 0 said.text) × ((held ≡ held_of said) × Sound held))

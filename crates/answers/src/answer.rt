@@ -3,11 +3,11 @@ ghost use Rattle.std.specs.Prelude.{◌≡◌, ◌≤◌, ◌++◌, length, take
 ghost use Rattle.printing.specs.Page.{Filled};
 ghost use Rattle.printing.specs.Numbers.{decimal};
 ghost use Rattle.reports.specs.Words.{line_word};
-ghost use Rattle.answers.specs.Answers.{State, starting, not_understood, too_long, made, call, image, asks_of, on_octets, by_asks, answer, answer_line, InRoom, Makes, AnswersLine};
+ghost use Rattle.answers.specs.Answers.{State, starting, not_understood, too_long, made, call, image, asks_of, on_octets, by_asks, answer, answer_line, bench_state, InRoom, Makes, AnswersLine, AnswersLent};
 
 use printing::page::Page;
-use reports::shown::{called_text, received_text};
-use reports::slots::batched_text;
+use reports::shown::{print_called, print_received};
+use reports::slots::print_batched;
 use std::marker::Model;
 use words::{Command, Ending, NotUnderstood};
 
@@ -24,19 +24,28 @@ pub enum Asks {
 
 // What goes on from line to line: the table's image, at the front of its space, and how long the reply buffer is.
 #[derive(Drop)]
-pub struct Held {
+pub struct Session {
     space: [u8; 300],
     size: usize,
     room: usize,
 }
 
 // Clauses see the image and the room.
-impl Model for Held {
+impl Model for Session {
     ghost Value = { State };
 
     ghost view = { λ h. record { table = take h.size h.space; room = h.room } };
 
     ghost invariant = { λ h. (h.size ≤ 300) × (h.room ≤ 300) };
+}
+
+// How long the image is and the reply buffer, for who lends the image's space and the page; and how much of the page is
+// written.
+#[derive(Clone, Copy)]
+pub struct Held {
+    pub size: usize,
+    pub room: usize,
+    pub written: usize,
 }
 
 fn asks_of(end: usize, command: Command) -> Asks
@@ -90,11 +99,11 @@ fn make(table: &mut [u8], buffer: &mut [u8], octets: &[u8], command: Command, pa
     match command {
         Command::Receive { .. } => {
             let received = telephone::receive::smr_receive(table, octets, buffer);
-            received_text(page, octets, buffer, received);
+            print_received(page, octets, buffer, received);
         }
         Command::Begin { operation, id, .. } => {
             let called = telephone::calls::smr_begin(table, operation, id, octets, buffer);
-            called_text(page, true, buffer, called);
+            print_called(page, true, buffer, called);
         }
         Command::Invoke {
             flag,
@@ -106,7 +115,7 @@ fn make(table: &mut [u8], buffer: &mut [u8], octets: &[u8], command: Command, pa
             let called = telephone::calls::smr_invoke(
                 table, flag, value, operation, id, octets, buffer,
             );
-            called_text(page, false, buffer, called);
+            print_called(page, false, buffer, called);
         }
         Command::Result {
             flag,
@@ -115,7 +124,7 @@ fn make(table: &mut [u8], buffer: &mut [u8], octets: &[u8], command: Command, pa
             ..
         } => {
             let called = telephone::calls::smr_result(table, flag, value, id, octets, buffer);
-            called_text(page, false, buffer, called);
+            print_called(page, false, buffer, called);
         }
         Command::Error {
             flag,
@@ -125,31 +134,48 @@ fn make(table: &mut [u8], buffer: &mut [u8], octets: &[u8], command: Command, pa
             ..
         } => {
             let called = telephone::calls::smr_error(table, flag, value, id, code, octets, buffer);
-            called_text(page, false, buffer, called);
+            print_called(page, false, buffer, called);
         }
         Command::Release { flag, value } => {
             let called = telephone::calls::smr_release(table, flag, value, buffer);
-            called_text(page, false, buffer, called);
+            print_called(page, false, buffer, called);
         }
         Command::Batch { .. } => {
             let batched = telephone::batch::smr_batch(table, octets, buffer);
-            batched_text(page, buffer, batched);
+            print_batched(page, buffer, batched);
         }
         Command::Table { .. } | Command::Buffer(_) => page.clear(),
     }
 }
 
-impl Held {
+impl Session {
     // A table all zero, and a reply buffer, of so many octets.
     pub fn new(size: usize, room: usize) -> Self
         requires { (size ≤ 300) × (room ≤ 300) }
         ensures { result ≡ starting size room }
     {
-        Held {
-            space: [0; 300],
-            size,
+        Session::holding(&[0; 300][..size], room)
+    }
+
+    // An image, and a reply buffer of so many octets.
+    fn holding(image: &[u8], room: usize) -> Self
+        requires { (length image.now ≤ 300) × (room ≤ 300) }
+        ensures { result ≡ record { table = image.now; room = room } }
+    {
+        let mut space = [0u8; 300];
+        octets::put(&mut space, 0, image);
+        Session {
+            space,
+            size: image.len(),
             room,
         }
+    }
+
+    fn image(&self) -> &[u8]
+        ensures image { result.now ≡ self.now.table }
+        ensures within { length result.now ≤ 300 }
+    {
+        &self.space[..self.size]
     }
 
     // Prints the image, or sets it.
@@ -159,7 +185,7 @@ impl Held {
     {
         if octets.is_empty() {
             page.clear();
-            page.octets_line(b"table", &self.space[..self.size]);
+            page.octets_line(b"table", self.image());
             page.words(b"\n");
         } else if octets.len() <= 300 {
             octets::put(&mut self.space, 0, octets);
@@ -252,5 +278,30 @@ impl Held {
         } else {
             self.answer(&line[..have], number, page);
         }
+    }
+}
+
+// The same over what is lent: the image stands at the front of its space, and the text comes to the start of the page.
+pub fn answer_line(
+    line: &[u8],
+    have: usize,
+    number: u64,
+    space: &mut [u8],
+    held: Held,
+    page: &mut [u8],
+) -> Held
+    requires { (length line.now ≡ 16384) × ((length space.old ≡ 300) × ((held.size ≤ 300) × ((held.room ≤ 300) × (70000 ≤ length page.old)))) }
+    ensures { AnswersLent (answer_line number line.now have (bench_state space.old held))
+        space.old space.new page.old page.new result }
+{
+    let mut session = Session::holding(&space[..held.size], held.room);
+    let mut answer = Answer::new();
+    session.answer_line(line, have, number, &mut answer);
+    octets::put(space, 0, session.image());
+    octets::put(page, 0, answer.text());
+    Held {
+        size: session.image().len(),
+        room: session.room,
+        written: answer.text().len(),
     }
 }

@@ -3,7 +3,7 @@
 
 ghost use Rattle.std.specs.Prelude.{◌≤◌};
 
-use answers::answer::{Answer, Held};
+use answers::answer::{Answer, Session};
 use std::io::{Print, Read};
 use words::lines::{counted, gather};
 
@@ -13,7 +13,7 @@ struct Bench {
     line: [u8; 16384],
     have: usize,
     number: u64,
-    held: Held,
+    session: Session,
     page: Answer,
     ghost within: { have ≤ 16385 },
 }
@@ -23,7 +23,7 @@ impl Bench {
     fn say(&mut self, output: &impl Print) {
         let have = self.have;
         let number = counted(self.number);
-        self.held
+        self.session
             .answer_line(&self.line, have, number, &mut self.page);
         let _ = output.write_all(self.page.text());
         self.have = 0;
@@ -55,7 +55,7 @@ fn main(rt: HostRuntime) {
         line: [0; 16384],
         have: 0,
         number: 0,
-        held: Held::new(238, 255),
+        session: Session::new(238, 255),
         page: Answer::new(),
     };
     for _ in 0..u64::MAX {

@@ -2,7 +2,7 @@ use Rattle.std.proofs.Common.{refl, arith, ◌∙◌}
 use lib.Seq.{length-take-le}
 use Rattle.std.proofs.lemmas.List.{take-replicate}
 use Rattle.answers.proofs.AnswerLaws.{calls}
-use Rattle.answers.proofs.answer.Held.on_call.Goals as goal
+use Rattle.answers.proofs.answer.Session.on_call.Goals as goal
 
 pub returns : goal.returns
 returns c =

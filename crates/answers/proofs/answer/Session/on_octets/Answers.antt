@@ -1,6 +1,6 @@
 use Rattle.std.proofs.Common.{refl}
 use Rattle.answers.proofs.AnswerLaws.{wrong, long, on_image, on_call}
-use Rattle.answers.proofs.answer.Held.on_octets.Goals as goal
+use Rattle.answers.proofs.answer.Session.on_octets.Goals as goal
 
 pub returns-in-Wrong : goal.returns-in-Wrong
 returns-in-Wrong c =

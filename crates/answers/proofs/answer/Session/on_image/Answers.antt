@@ -2,7 +2,7 @@ use Rattle.std.proofs.Common.{◌≡◌, sym, ap, rules, length}
 use Rattle.reports.specs.Words.{table_set}
 use Rattle.answers.specs.Answers.{State}
 use Rattle.answers.proofs.AnswerLaws.{sets}
-use Rattle.answers.proofs.answer.Held.on_image.Goals as goal
+use Rattle.answers.proofs.answer.Session.on_image.Goals as goal
 
 pub returns-then-octets-le300 : goal.returns-then-octets-le300
 returns-then-octets-le300 c =
