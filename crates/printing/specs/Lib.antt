@@ -4,4 +4,3 @@ pub mod Numbers
 pub mod Lines
 pub mod Utf8
 pub mod Forty
-pub mod Lent
