@@ -10,7 +10,7 @@ use lib.Seq.{drop-cons, take-length}
 use lib.Dec.{ltb}
 use Rattle.std.proofs.lemmas.List.{take_min, drop_min}
 use Rattle.octets.specs.Splice.{splice}
-use Rattle.printing.specs.Lent.{WroteWithin}
+use Rattle.printing.specs.Lent.{WroteAt}
 use Rattle.printing.specs.Utf8.{pictured, utf8, cell_text, row_text, text_rows}
 use Rattle.printing.proofs.JoinLaws.{piece}
 
@@ -66,7 +66,7 @@ short text (cells ∷ dropped ∷ rows) h = absurd (omega arith)
 -- one line more: the rest of the text and of the lines
 pub row_more : (page start after text rows : List ℕ) (place behind to next most last : ℕ) → 2 ≤ length rows
     → to ≡ min (get_or rows 0 0) (length text) → next ≡ min (get_or rows 0 0 + get_or rows 1 0) (length text)
-    → WroteWithin (3 * length (take to text) + 1) page place (row_text (take to text)) after behind
+    → WroteAt (3 * length (take to text) + 1) page place (row_text (take to text)) after behind
     → most ≤ length page
     → place + 3 * length text + length rows ≤ most
     → splice page place (text_rows text rows) ≡ start

@@ -7,7 +7,7 @@ use lib.ListN.{length, take, drop, length-append}
 use lib.Seq.{length-take-le, take_at}
 use Rattle.octets.specs.Splice.{splice}
 use Rattle.printing.specs.Page.{WroteWithin}
-use Rattle.printing.specs.Lent.{WroteWithin as LentWroteWithin}
+use Rattle.printing.specs.Lent.{WroteAt}
 
 -- what is written directly behind the text is the end of the text
 pub grown : (octets : List ℕ) (at : ℕ) (words : List ℕ) → at ≤ length octets → take (at + length words) (splice octets at words) ≡ take at octets ++ words
@@ -21,7 +21,7 @@ written page text after e = (e, rw (e, length-append page text) (omega arith))
 
 -- what is written into a lent page at the end of its text, with the place told behind it, is appended to the text
 pub appended : (octets page : List ℕ) (at most : ℕ) (text after : List ℕ) (behind : ℕ) → at ≤ length octets → take at octets ≡ page
-    → LentWroteWithin most octets at text after behind → WroteWithin most page text (take behind after)
+    → WroteAt most octets at text after behind → WroteWithin most page text (take behind after)
 appended octets page at most text after behind h v w =
     let e : take behind after ≡ page ++ text = rw (w.0, w.1.0, ← v) (grown octets at text h) in
     let n : length page ≡ at = ap length (sym v) ∙ length-take-le at octets h in

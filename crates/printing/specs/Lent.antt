@@ -7,9 +7,9 @@ abbrev pub Wrote : List ℕ → ℕ → List ℕ → List ℕ → ℕ → Type 0
 Wrote page at text after behind = (after ≡ splice page at text) × (behind ≡ at + length text)
 
 -- a text of at most so many octets
-abbrev pub WroteWithin : ℕ → List ℕ → ℕ → List ℕ → List ℕ → ℕ → Type 0
-WroteWithin most page at text after behind = (after ≡ splice page at text) × ((behind ≡ at + length text) × (behind ≤ at + most))
+abbrev pub WroteAt : ℕ → List ℕ → ℕ → List ℕ → List ℕ → ℕ → Type 0
+WroteAt most page at text after behind = (after ≡ splice page at text) × ((behind ≡ at + length text) × (behind ≤ at + most))
 
 -- a text at the start of the page; the answer is how long it is
-abbrev pub Filled : ℕ → List ℕ → List ℕ → List ℕ → ℕ → Type 0
-Filled most page text after written = (after ≡ splice page 0 text) × ((written ≡ length text) × (written ≤ most))
+abbrev pub FilledAt : ℕ → List ℕ → List ℕ → List ℕ → ℕ → Type 0
+FilledAt most page text after written = (after ≡ splice page 0 text) × ((written ≡ length text) × (written ≤ most))

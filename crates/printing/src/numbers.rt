@@ -1,7 +1,7 @@
 // Words and numbers at a place of a lent page; each answers the place behind.
 ghost use Rattle.std.specs.Prelude.{◌≡◌, ◌+◌, ◌≤◌, ◌<◌, length};
 ghost use Rattle.octets.specs.Splice.{splice};
-ghost use Rattle.printing.specs.Lent.{Wrote, WroteWithin};
+ghost use Rattle.printing.specs.Lent.{Wrote, WroteAt};
 ghost use Rattle.printing.specs.Numbers.{decimal, id_text, glyph, pair};
 
 pub fn put_words(page: &mut [u8], at: usize, words: &[u8]) -> usize
@@ -14,7 +14,7 @@ pub fn put_words(page: &mut [u8], at: usize, words: &[u8]) -> usize
 
 pub fn put_decimal(page: &mut [u8], at: usize, n: u64) -> usize
     requires { at + 20 ≤ length page.old }
-    ensures { WroteWithin 20 page.old at (decimal n) page.new result }
+    ensures { WroteAt 20 page.old at (decimal n) page.new result }
 {
     let mut digits = [0u8; 20];
     let count = io::decimal(n, &mut digits);
@@ -23,7 +23,7 @@ pub fn put_decimal(page: &mut [u8], at: usize, n: u64) -> usize
 
 pub fn put_id(page: &mut [u8], at: usize, id: i8) -> usize
     requires { at + 21 ≤ length page.old }
-    ensures { WroteWithin 21 page.old at (id_text id) page.new result }
+    ensures { WroteAt 21 page.old at (id_text id) page.new result }
 {
     let octet = codes::ids::octet_of(id) as u64;
     if octet < 128 {

@@ -1,6 +1,6 @@
 // Lines of text, a character for each cell, at a place of a lent page; each answers the place behind.
 ghost use Rattle.std.specs.Prelude.{◌≡◌, ◌+◌, ◌*◌, ◌≤◌, length};
-ghost use Rattle.printing.specs.Lent.{WroteWithin};
+ghost use Rattle.printing.specs.Lent.{WroteAt};
 ghost use Rattle.printing.specs.Utf8.{pictured, utf8, cell_text, row_text, text_rows};
 
 use crate::numbers::put_words;
@@ -22,7 +22,7 @@ fn picture_of(character: u16) -> u16
 #[tactic(auto, unfolding(crate::specs::Utf8::utf8))]
 fn put_character(page: &mut [u8], at: usize, character: u16) -> usize
     requires { at + 3 ≤ length page.old }
-    ensures { WroteWithin 3 page.old at (utf8 (pictured character)) page.new result }
+    ensures { WroteAt 3 page.old at (utf8 (pictured character)) page.new result }
 {
     let c = picture_of(character);
     if c < 0x80 {
@@ -45,7 +45,7 @@ fn put_character(page: &mut [u8], at: usize, character: u16) -> usize
 // Characters in a row.
 fn put_cells(page: &mut [u8], at: usize, characters: &[u16]) -> usize
     requires { at + 3 * length characters.now ≤ length page.old }
-    ensures { WroteWithin (3 * length characters.now) page.old at (cell_text characters.now) page.new result }
+    ensures { WroteAt (3 * length characters.now) page.old at (cell_text characters.now) page.new result }
 {
     let mut place = at;
     for character in characters {
@@ -57,7 +57,7 @@ fn put_cells(page: &mut [u8], at: usize, characters: &[u16]) -> usize
 // One line: its characters, and the line's end.
 fn put_row(page: &mut [u8], at: usize, characters: &[u16]) -> usize
     requires { at + 3 * length characters.now + 1 ≤ length page.old }
-    ensures { WroteWithin (3 * length characters.now + 1) page.old at (row_text characters.now) page.new result }
+    ensures { WroteAt (3 * length characters.now + 1) page.old at (row_text characters.now) page.new result }
 {
     let behind = put_cells(page, at, characters);
     put_words(page, behind, b"\n")
@@ -66,7 +66,7 @@ fn put_row(page: &mut [u8], at: usize, characters: &[u16]) -> usize
 // A text line by line. Two octets tell a line: its cells, and the space that was dropped behind it.
 pub fn text_rows(page: &mut [u8], at: usize, text: &[u16], rows: &[u8]) -> usize
     requires { at + 3 * length text.now + length rows.now ≤ length page.old }
-    ensures { WroteWithin (3 * length text.now + length rows.now) page.old at
+    ensures { WroteAt (3 * length text.now + length rows.now) page.old at
         (text_rows text.now rows.now) page.new result }
 {
     let mut place = at;

@@ -1,7 +1,7 @@
 // What is printed of a received message and of a call.
 ghost use Rattle.std.specs.Prelude.{◌≡◌, ◌+◌, ◌≤◌, length};
 ghost use Rattle.printing.specs.Page.{WroteWithin, Filled};
-ghost use Rattle.printing.specs.Lent.{WroteWithin as WroteAt, Filled as FilledAt};
+ghost use Rattle.printing.specs.Lent.{WroteAt, FilledAt};
 ghost use Rattle.showing.specs.Views.{standing};
 ghost use Rattle.reports.specs.Shown.{kind_lines, number_lines, parameter_line, text_lines, cause_line, written_line, received_text, called_text};
 

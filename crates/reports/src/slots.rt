@@ -1,7 +1,7 @@
 // What is printed of a batch.
 ghost use Rattle.std.specs.Prelude.{◌+◌, ◌*◌, ◌≤◌, length};
 ghost use Rattle.printing.specs.Page.{WroteWithin, Filled};
-ghost use Rattle.printing.specs.Lent.{Filled as FilledAt};
+ghost use Rattle.printing.specs.Lent.{FilledAt};
 ghost use Rattle.reports.specs.Slots.{slot_text, slot_lines, batched_text};
 
 use crate::shown::print_written;

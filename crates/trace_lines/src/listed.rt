@@ -1,6 +1,6 @@
 // The list of what salvage dropped or renumbered.
 ghost use Rattle.std.specs.Prelude.{◌≡◌};
-ghost use Rattle.printing.specs.Lent.{Filled as FilledAt};
+ghost use Rattle.printing.specs.Lent.{FilledAt};
 ghost use Rattle.printing.specs.Page.{Filled};
 ghost use Rattle.trace.specs.Salvage.{listed_by};
 ghost use Rattle.trace_lines.specs.Listed.{listed_lines};

@@ -1,6 +1,6 @@
 // What the reader prints of a block.
 ghost use Rattle.std.specs.Prelude.{◌≡◌, true, not, ◌+◌, ◌*◌, ◌≤◌, length, eqb};
-ghost use Rattle.printing.specs.Lent.{Filled as FilledAt};
+ghost use Rattle.printing.specs.Lent.{FilledAt};
 ghost use Rattle.printing.specs.Page.{WroteWithin, Filled};
 ghost use Rattle.trace.specs.Records.{records_in};
 ghost use Rattle.trace.specs.Blocks.{records_at, records_or, fault_of};
